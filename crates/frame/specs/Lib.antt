@@ -1,0 +1,5 @@
+pub mod Bytes
+pub mod Hex
+pub mod MoveFrame
+pub mod AnswerFrame
+pub mod Reading

@@ -1,0 +1,47 @@
+-- The frame of a move, and the move of a frame.
+--   moveFrame m      01; count of A; count of B; T; velocities of A and of B; corners of A; corners of B
+--   moveLine m       the frame in hexadecimal, closed by 0a
+--   moveOfFrame f    the move whose frame is f; the second outline's bytes start where the first's end
+use mathlib.Core.List.{List, [], _∷_, _++_, flatMap}
+use Prim.Native.Nat.{ℕ, zero, suc, _+_, _*_}
+use lib.IntN.{ℤ, pos, natAbs}
+use lib.ListN.{length, getD, drop}
+use Rattle.plane.specs.Point.{point}
+use Rattle.plane.specs.declared.Corner.{Corner}
+use Rattle.verdict.specs.Move.{Move}
+use Rattle.frame.specs.Bytes.{bytes2, number2, twos, signed}
+use Rattle.frame.specs.Hex.{hex}
+
+abbrev pub pairBytes : Corner → List ℕ
+pairBytes p = bytes2 (twos (p .x)) ++ bytes2 (twos (p .y))
+
+unfoldable pub moveFrame : Move → List ℕ
+moveFrame m = 1 ∷ length (m .a) ∷ length (m .b) ∷ bytes2 (natAbs (m .limit)) ++ pairBytes (m .va) ++ pairBytes (m .vb) ++ flatMap pairBytes (m .a) ++ flatMap pairBytes (m .b)
+
+unfoldable pub moveLine : Move → List ℕ
+moveLine m = hex (moveFrame m) ++ (10 ∷ [])
+
+-- the byte at i, and the two numbers whose bytes start there
+abbrev pub byteAt : List ℕ → ℕ → ℕ
+byteAt f i = getD f i 0
+
+abbrev pub numberAt : List ℕ → ℕ → ℕ
+numberAt f i = number2 (byteAt f i) (byteAt f (i + 1))
+
+abbrev pub pairAt : List ℕ → ℕ → Corner
+pairAt f i = point (signed (numberAt f i)) (signed (numberAt f (i + 2)))
+
+-- the first n corners of a part of a frame
+unfoldable pub cornersIn : List ℕ → ℕ → List Corner
+cornersIn f zero = []
+cornersIn f (suc n) = pairAt f 0 ∷ cornersIn (drop 4 f) n
+
+unfoldable pub moveOfFrame : List ℕ → Move
+moveOfFrame f =
+    record {
+      a = cornersIn (drop 13 f) (byteAt f 1);
+      b = cornersIn (drop (13 + 4 * byteAt f 1) f) (byteAt f 2);
+      va = pairAt f 5;
+      vb = pairAt f 9;
+      limit = pos (numberAt f 3);
+    }

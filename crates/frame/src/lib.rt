@@ -1,0 +1,1 @@
+// Frames of bytes and their hexadecimal lines.

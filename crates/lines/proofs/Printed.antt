@@ -1,0 +1,31 @@
+-- The four examples hold by computation: what the program prints for each input, and that each input is the line of its case's move.
+use mathlib.Core.Path.{_≡_, refl}
+use mathlib.Core.List.{List, [], _∷_, map, flatMap}
+use lib.ListN.{getD}
+use Rattle.whole.specs.Lowest.{lowest, some, every}
+use Rattle.whole.specs.Best.{best}
+use Rattle.whole.specs.Time.{before, same, reduced}
+use Rattle.plane.specs.Point.{cross, dot}
+use Rattle.plane.specs.Interval.{low, high, shares}
+use Rattle.plane.specs.Inside.{inside, meet}
+use Rattle.outline.specs.Sound.{left, badEdge, isSound}
+use Rattle.outline.specs.Refusal.{firstThatApplies, counted, placed}
+use Rattle.verdict.specs.Move.{Move}
+use Rattle.verdict.specs.Sides.{sideOf}
+use Rattle.verdict.specs.Span.{windowAhead, windowStill, window, span, spansTo, spans}
+use Rattle.verdict.specs.Showing.{cornerInside, edgesMeet, meetingEdge, edgeMet, showingOf, showing}
+use Rattle.verdict.specs.Verdict.{bearing, verdictFrom, verdict}
+use Rattle.verdict.specs.Refusal.{refusal}
+use Rattle.verdict.specs.Answer.{answerUnless}
+use Rattle.verdict.specs.Cases.{Case, cases, move, square, star}
+use Rattle.frame.specs.Hex.{character, digit, hex, unhex, digits}
+use Rattle.frame.specs.MoveFrame.{moveFrame, moveLine, cornersIn, moveOfFrame}
+use Rattle.frame.specs.AnswerFrame.{answerFrame, answerLine}
+use Rattle.frame.specs.Reading.{refusalOfFrame, refusalOfLine, moveOfLine, answerOfLine}
+use Rattle.lines.specs.Lines.{linesFrom}
+use Rattle.lines.specs.Output.{output}
+use Rattle.lines.specs.Examples.{Example, text, examples}
+
+pub printed : map (λ (e : Example). output (e .given)) examples ≡ map (λ (e : Example). e .printed) examples
+unfolding lowest some every best before same reduced cross dot low high shares inside meet left badEdge isSound firstThatApplies counted placed sideOf windowAhead windowStill window span spansTo spans cornerInside edgesMeet meetingEdge edgeMet showingOf showing bearing verdictFrom verdict refusal answerUnless character digit hex unhex digits cornersIn moveOfFrame answerFrame answerLine refusalOfFrame refusalOfLine moveOfLine answerOfLine linesFrom output text flatMap
+printed = refl

@@ -1,0 +1,1 @@
+// Lines of an input and the answers to them.

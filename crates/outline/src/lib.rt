@@ -1,0 +1,1 @@
+// Outlines: corners in order, counterclockwise.

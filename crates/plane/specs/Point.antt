@@ -1,0 +1,34 @@
+-- Points of the plane, the steps between them and the two products of steps.
+--   point x y     the point with these coordinates
+--   plus p q      p moved by the step q
+--   step p q      the step from p to q
+--   scaled k p    p with both coordinates multiplied by k
+--   cross p q     above zero where q points to the left of p
+--   dot p q       the projection of q on the direction p, times the length of p
+--   side e        the direction of the side that an edge e gives: it points to the edge's right
+use lib.IntN.{ℤ, pos, negℤ, _+ℤ_, _-ℤ_, _*ℤ_}
+use Rattle.plane.specs.declared.Corner.{Corner}
+
+abbrev pub point : ℤ → ℤ → Corner
+point x y = record { x = x; y = y }
+
+abbrev pub origin : Corner
+origin = point (pos 0) (pos 0)
+
+abbrev pub plus : Corner → Corner → Corner
+plus p q = point (p .x +ℤ q .x) (p .y +ℤ q .y)
+
+abbrev pub step : Corner → Corner → Corner
+step p q = point (q .x -ℤ p .x) (q .y -ℤ p .y)
+
+abbrev pub scaled : ℤ → Corner → Corner
+scaled k p = point (k *ℤ p .x) (k *ℤ p .y)
+
+unfoldable pub cross : Corner → Corner → ℤ
+cross p q = p .x *ℤ q .y -ℤ p .y *ℤ q .x
+
+unfoldable pub dot : Corner → Corner → ℤ
+dot p q = p .x *ℤ q .x +ℤ p .y *ℤ q .y
+
+abbrev pub side : Corner → Corner
+side e = point (e .y) (negℤ (e .x))

@@ -1,0 +1,70 @@
+-- The twelve cases of document 01 that are marked P, as one table of moves with their answers. A stands still.
+use mathlib.Core.List.{List, [], _∷_}
+use Prim.Native.Nat.{ℕ, _+_}
+use lib.IntN.{ℤ, pos, negℤ, _+ℤ_}
+use Rattle.whole.specs.Time.{time}
+use Rattle.plane.specs.Point.{point, origin}
+use Rattle.plane.specs.declared.Corner.{Corner}
+use Rattle.verdict.specs.Move.{Move}
+use Rattle.verdict.specs.declared.Bearing.{Bearing}
+use Rattle.verdict.specs.declared.Bearing.the-variants.{Side, None}
+use Rattle.verdict.specs.declared.Showing.{Showing}
+use Rattle.verdict.specs.declared.Showing.the-variants.{CornerOfA, CornerOfB, Edges}
+use Rattle.verdict.specs.declared.Answer.{Answer}
+use Rattle.verdict.specs.declared.Answer.the-variants.{ClearByOne, ClearByTwo, Contact, Refused}
+
+abbrev pub minus : ℕ → ℤ
+minus n = negℤ (pos n)
+
+-- the upright box with these low and high corners, counterclockwise from its low corner
+abbrev pub box : ℤ → ℤ → ℤ → ℤ → List Corner
+box lx ly hx hy = point lx ly ∷ point hx ly ∷ point hx hy ∷ point lx hy ∷ []
+
+-- S+(x,y), the square of side 2 whose low corner is (x,y)
+abbrev pub square : ℕ → ℕ → List Corner
+square x y = box (pos x) (pos y) (pos (x + 2)) (pos (y + 2))
+
+abbrev pub star : List Corner
+star = point (pos 10) (pos 0) ∷ point (minus 8) (pos 6) ∷ point (pos 3) (minus 9) ∷ point (pos 3) (pos 9) ∷ point (minus 8) (minus 6) ∷ []
+
+abbrev pub move : List Corner → List Corner → Corner → ℕ → Move
+move A B vb T = record { a = A; b = B; va = origin; vb = vb; limit = pos T }
+
+-- contact from n/d to p/q
+abbrev pub contact : ℕ → ℕ → ℕ → ℕ → Bearing → Showing → Answer
+contact n d p q bearing showing = Contact (record { first = time n d; last = time p q; bearing = bearing; showing = showing })
+
+pub record Case : Type 0 where
+  pub asked : Move
+  pub answered : Answer
+
+abbrev pub row : Move → Answer → Case
+row m r = record { asked = m; answered = r }
+
+abbrev pub cases : List Case
+cases =
+    -- P1
+    row (move (square 0 0) (square 5 0) (point (minus 1) (pos 0)) 10) (contact 3 1 7 1 (Side 1) (CornerOfA 1))
+    -- P2
+    ∷ row (move (square 0 0) (square 5 0) (point (minus 1) (pos 0)) 3) (contact 3 1 3 1 (Side 1) (CornerOfA 1))
+    -- P3
+    ∷ row (move (square 0 0) (square 5 0) (point (minus 1) (pos 0)) 2) (ClearByOne 1)
+    -- P4
+    ∷ row (move (square 0 0) (square 5 0) (point (pos 1) (pos 0)) 10) (ClearByOne 1)
+    -- P5
+    ∷ row (move (square 0 0) (square 5 0) (point (minus 2) (pos 0)) 10) (contact 3 2 7 2 (Side 1) (CornerOfA 1))
+    -- P6
+    ∷ row (move (square 0 0) (square 5 4) (point (minus 1) (minus 3)) 10) (ClearByTwo 1 0)
+    -- P7
+    ∷ row (move (square 0 0) (square 5 4) (point (minus 1) (minus 1)) 10) (contact 3 1 6 1 (Side 1) (CornerOfA 2))
+    -- P8
+    ∷ row (move (square 0 0) (square 5 5) (point (minus 1) (minus 1)) 10) (contact 3 1 7 1 (Side 0) (CornerOfA 2))
+    -- P9
+    ∷ row (move (square 0 0) (square 2 0) origin 10) (contact 0 1 10 1 None (CornerOfA 1))
+    -- P10
+    ∷ row (move (box (pos 0) (pos 0) (pos 10) (pos 10)) (square 4 4) origin 10) (contact 0 1 10 1 None (CornerOfB 0))
+    -- P11
+    ∷ row (move (box (minus 5) (minus 1) (pos 5) (pos 1)) (box (minus 1) (minus 5) (pos 1) (pos 5)) origin 0) (contact 0 1 0 1 None (Edges 0 1))
+    -- P12
+    ∷ row (move star (square 0 0) origin 10) (Refused 8)
+    ∷ []

@@ -1,0 +1,8 @@
+pub mod Move
+pub mod Sides
+pub mod Span
+pub mod Showing
+pub mod Verdict
+pub mod Refusal
+pub mod Answer
+pub mod Cases

@@ -1,0 +1,33 @@
+-- Why a move is turned away: the number of the first reason that applies, top down, or 0 where none does.
+--   refusal m                        of a move, 4 to 9
+--   refusalOfLists xs ys va vb T     of a move handed in as lists of coordinates: an odd length is 4 too
+use mathlib.Core.Bool.{Bool, not, _&&_}
+use mathlib.Core.List.{List, [], _∷_}
+use Prim.Native.Nat.{ℕ}
+use lib.IntN.{ℤ, pos}
+use lib.ListN.{length}
+use lib.Signed.{leZ}
+use Rattle.plane.specs.declared.Corner.{Corner}
+use Rattle.outline.specs.Sound.{isSound}
+use Rattle.outline.specs.Coordinates.{paired}
+use Rattle.outline.specs.Refusal.{firstThatApplies, orElse, counted, bothInRange, placed}
+use Rattle.verdict.specs.Move.{Move, moveOfLists}
+
+-- from 0 to 10,000
+abbrev pub limited : ℤ → Bool
+limited T = leZ (pos 0) T && leZ T (pos 10000)
+
+unfoldable pub refusal : Move → ℕ
+refusal m =
+    firstThatApplies (
+    (4, not (counted (length (m .a)) && counted (length (m .b))))
+    ∷ (5, not (limited (m .limit)))
+    ∷ (6, not (bothInRange (m .va) && bothInRange (m .vb)))
+    ∷ (7, not (placed (m .a) && placed (m .b)))
+    ∷ (8, not (isSound (m .a)))
+    ∷ (9, not (isSound (m .b)))
+    ∷ []
+    )
+
+unfoldable pub refusalOfLists : List ℤ → List ℤ → Corner → Corner → ℤ → ℕ
+refusalOfLists xs ys va vb T = orElse (firstThatApplies ((4, not (paired xs && paired ys)) ∷ [])) (refusal (moveOfLists xs ys va vb T))
