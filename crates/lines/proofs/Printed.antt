@@ -10,16 +10,14 @@ use Rattle.plane.specs.Interval.{low, high, shares}
 use Rattle.plane.specs.Inside.{inside, meet}
 use Rattle.outline.specs.Sound.{left, badEdge, isSound}
 use Rattle.outline.specs.Refusal.{firstThatApplies, counted, placed}
-use Rattle.verdict.specs.Move.{Move}
 use Rattle.verdict.specs.Sides.{sideOf}
 use Rattle.verdict.specs.Span.{windowAhead, windowStill, window, span, spansTo, spans}
 use Rattle.verdict.specs.Showing.{cornerInside, edgesMeet, meetingEdge, edgeMet, showingOf, showing}
 use Rattle.verdict.specs.Verdict.{bearing, verdictFrom, verdict}
 use Rattle.verdict.specs.Refusal.{refusal}
 use Rattle.verdict.specs.Answer.{answerUnless}
-use Rattle.verdict.specs.Cases.{Case, cases, move, square, star}
 use Rattle.frame.specs.Hex.{character, digit, hex, unhex, digits}
-use Rattle.frame.specs.MoveFrame.{moveFrame, moveLine, cornersIn, moveOfFrame}
+use Rattle.frame.specs.MoveFrame.{cornersIn, moveOfFrame}
 use Rattle.frame.specs.AnswerFrame.{answerFrame, answerLine}
 use Rattle.frame.specs.Reading.{refusalOfFrame, refusalOfLine, moveOfLine, answerOfLine}
 use Rattle.lines.specs.Lines.{linesFrom}

@@ -1,3 +1,5 @@
 pub mod Sound
+pub mod Star
 pub mod Coordinates
 pub mod Refusal
+pub mod Held

@@ -5,6 +5,7 @@ use lib.IntN.{ℤ, pos, negℤ, _+ℤ_}
 use Rattle.whole.specs.Time.{time}
 use Rattle.plane.specs.Point.{point, origin}
 use Rattle.plane.specs.declared.Corner.{Corner}
+use Rattle.outline.specs.Star.{star}
 use Rattle.verdict.specs.Move.{Move}
 use Rattle.verdict.specs.declared.Bearing.{Bearing}
 use Rattle.verdict.specs.declared.Bearing.the-variants.{Side, None}
@@ -23,9 +24,6 @@ box lx ly hx hy = point lx ly ∷ point hx ly ∷ point hx hy ∷ point lx hy �
 -- S+(x,y), the square of side 2 whose low corner is (x,y)
 abbrev pub square : ℕ → ℕ → List Corner
 square x y = box (pos x) (pos y) (pos (x + 2)) (pos (y + 2))
-
-abbrev pub star : List Corner
-star = point (pos 10) (pos 0) ∷ point (minus 8) (pos 6) ∷ point (pos 3) (minus 9) ∷ point (pos 3) (pos 9) ∷ point (minus 8) (minus 6) ∷ []
 
 abbrev pub move : List Corner → List Corner → Corner → ℕ → Move
 move A B vb T = record { a = A; b = B; va = origin; vb = vb; limit = pos T }

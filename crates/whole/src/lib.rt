@@ -1,7 +1,41 @@
 // Whole numbers and the fractions that times are.
+ghost use mathlib.Core.Path.{_≡_};
+ghost use Prim.Native.Nat.{_≤_};
+ghost use Rattle.whole.specs.Time.{Short, gcd, reduced, before};
 
 // The fraction n/d of a unit of time; d is at least 1.
 pub struct Time {
     pub n: u64,
     pub d: u64,
+}
+
+// The greatest common divisor of m and n, by which a fraction is brought to lowest terms.
+pub fn gcd(m: u64, n: u64) -> u64
+    ensures { λ r. ⌜ r ≡ gcd m n ⌝ }
+{
+    let mut a = m;
+    let mut b = n;
+    while b != 0 {
+        let c = a % b;
+        a = b;
+        b = c;
+    }
+    a
+}
+
+// The time n/d in lowest terms, in which equal times have equal parts.
+pub fn reduced(n: u64, d: u64) -> Time
+    requires { ⌜ 1 ≤ d ⌝ }
+    ensures { λ r. ⌜ r ≡ reduced n d ⌝ }
+{
+    let g = gcd(n, d);
+    Time { n: n / g, d: d / g }
+}
+
+// Whether s is less than t: the cross products of short times fit, so nothing is rounded.
+pub fn before(s: Time, t: Time) -> bool
+    requires { ⌜ Short s × Short t ⌝ }
+    ensures { λ r. ⌜ r ≡ before s t ⌝ }
+{
+    s.n * t.d < t.n * s.d
 }

@@ -1,0 +1,107 @@
+-- The loop has shown each corner passed to be an end of the edge or strictly to its left.
+use mathlib.Core.Path.{_≡_, refl, sym, _∙_, ap}
+use mathlib.Core.Bool.{true, false}
+use Prim.Native.Nat.{ℕ, _≤_, _<_, _-_}
+use native.Mathlib.Omega.{arith}
+use borrow.Author.Needs.{needs}
+use borrow.Author.Count.{below-none, below-more}
+use borrow.Author.Tests.{not-true, not-false}
+use Rattle.whole.proofs.Indices.{every-true, every-false}
+use Rattle.outline.proofs.Places.{held-left}
+use Rattle.outline.specs.Sound.{left}
+use Rattle.outline.specs.Held.{cornersHeld}
+use Rattle.outline.proofs.is_edge_sound.Statement.{statement}
+use Rattle.outline.proofs.is_edge_sound.Tie as tie
+use Rattle.outline.proofs.is_edge_sound.Reads as reads
+use Rattle.outline.proofs.is_edge_sound.Lts as lts
+use Rattle.outline.proofs.is_left.Reads as is-left-reads
+use Rattle.outline.proofs.next.Reads as next-reads
+
+abbrev Inv-loop : tie.InvT-loop
+Inv-loop i o n j a b k₀ k = (k ≤ n) × ((m : ℕ) → m < k → left (cornersHeld o) i m ≡ true)
+
+abbrev μ-loop : tie.MeasureT-loop
+μ-loop i o n j a b k₀ k = n - k
+
+next-requires : tie.Need-next-requires Inv-loop μ-loop
+next-requires c κs = search needs
+
+mul-a : tie.Need-mul-a Inv-loop μ-loop
+mul-a c = search needs
+
+element-copy-out-a : tie.Need-element-copy-out-a Inv-loop μ-loop
+element-copy-out-a c = search needs
+
+mul-b : tie.Need-mul-b Inv-loop μ-loop
+mul-b c = search needs
+
+element-copy-out-b : tie.Need-element-copy-out-b Inv-loop μ-loop
+element-copy-out-b c = search needs
+
+loop-holds : tie.Need-loop-holds Inv-loop μ-loop
+loop-holds c = (omega arith, below-none _)
+
+mul-p : tie.Need-mul-p Inv-loop μ-loop
+mul-p c = search needs
+
+element-copy-out-p : tie.Need-element-copy-out-p Inv-loop μ-loop
+element-copy-out-p c = search needs
+
+is-left-requires : tie.Need-is-left-requires Inv-loop μ-loop
+is-left-requires c κs =
+    let s = c .before .before .before .before .before .before in
+    let near = s .pre .0 .near in
+    (near (s .args .i), near (c .before .before .before .before .before .next .result), near (c .before .before .loop .k))
+
+returns : tie.Need-returns Inv-loop μ-loop
+returns c =
+    let s = c .before .before .before .before .before .before .before .before in
+    let at = c .before .before .before in
+    let o = s .args .t1 in
+    let told = sym (c .before .is-left .ensures) ∙ not-true _ (c .if1 .taken) in
+    sym (every-false (left (cornersHeld o) (s .args .i)) (o .count) (at .before .loop .k) (at .loop-test .taken)
+    (held-left o (s .pre .0) (s .args .i) (at .before .loop .k) (s .pre .1) (at .loop-test .taken) ∙ rw (← c .before .before .before .before .before .before .before .next .ensures .0) told))
+
+add-k : tie.Need-add-k Inv-loop μ-loop
+add-k c = search needs
+
+loop-less : tie.Need-loop-less Inv-loop μ-loop
+loop-less c = search needs
+
+loop-again : tie.Need-loop-again Inv-loop μ-loop
+loop-again c =
+    let s = c .before .before .before .before .before .before .before .before in
+    let at = c .before .before .before in
+    let o = s .args .t1 in
+    let told = sym (c .before .is-left .ensures) ∙ not-false _ (c .if1 .left) in (
+      omega arith,
+      below-more _ _ (at .before .loop .inv .1)
+          (held-left o (s .pre .0) (s .args .i) (at .before .loop .k) (s .pre .1) (at .loop-test .taken) ∙ rw (← c .before .before .before .before .before .before .before .next .ensures .0) told),
+    )
+
+returns-2 : tie.Need-returns-2 Inv-loop μ-loop
+returns-2 c =
+    let s = c .before .before .before .before .before in
+    let end : c .before .loop .k ≡ s .args .t1 .count = omega arith in
+    sym (every-true (left (cornersHeld (s .args .t1)) (s .args .i)) (s .args .t1 .count) (λ m h. c .before .loop .inv .1 m (omega arith)))
+
+pub is-edge-sound-spec : {M : Type 1} → statement M
+is-edge-sound-spec =
+    tie.close
+    (tie.spec
+    Inv-loop
+    μ-loop
+    next-requires
+    mul-a
+    element-copy-out-a
+    mul-b
+    element-copy-out-b
+    loop-holds
+    mul-p
+    element-copy-out-p
+    is-left-requires
+    returns
+    add-k
+    loop-less
+    loop-again
+    returns-2)

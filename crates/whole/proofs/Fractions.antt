@@ -1,0 +1,123 @@
+-- Times as fractions: `before` is a strict order on the values of proper times, so the least and the greatest of a list are bounds; `reduced` keeps the value, and each value has one time in lowest terms.
+-- Assumes nothing.
+use mathlib.Core.Path.{_≡_, refl, sym, _∙_, ap, ap₂}
+use mathlib.Core.Bool.{Bool, true, false}
+use mathlib.Core.List.{List, _∷_}
+use Prim.Native.Nat.{ℕ, _*_, _/_, _^_, _≤_, _<_, _∣_}
+use native.Mathlib.Nat.{mul-le-mul, le-pred-of-lt, mul-le-mul-right, le-of-mul-le-mul-right, le-antisymm, le-of-eq, eq-of-mul-eq-mul-left, eq-of-mul-eq-mul-right, mul-one, mul-div-cancel', div-le-self, dvd-mul-left, dvd-antisymm, pos-of-dvd-of-pos}
+use native.Mathlib.Omega.{arith}
+use borrow.Author.Tests.{ltb-true, ltb-false, le-ltb, eqb-true, eq-eqb}
+use Rattle.whole.specs.declared.Time.{Time}
+use Rattle.whole.specs.Member.{Mem}
+use Rattle.whole.specs.Time.{time, Proper, before, same, greatest, least, gcd, reduced, Reduced, Short}
+use Rattle.whole.proofs.Members.{Ranks, ranks-flip, best-member, best-bound}
+use Rattle.whole.proofs.Divisors.{gcd-divides-left, gcd-divides-right, gcd-pos, gcd-comm, gcd-scale, coprime-divides}
+
+-- ---- the order
+-- a/b ≤ c/d and c/d ≤ e/f give a/b ≤ e/f, where d is at least 1
+cross-trans : (a b c d e f : ℕ) → 1 ≤ d → a * d ≤ c * b → c * f ≤ e * d → a * f ≤ e * b
+cross-trans a b c d e f p h k = le-of-mul-le-mul-right {k = d} (omega (arith, mul-le-mul-right f h, mul-le-mul-right b k)) p
+
+pub before-irrefl : (t : Time) → before t t ≡ false
+unfolding before
+before-irrefl t = le-ltb (t .n * t .d) (t .n * t .d) (omega arith)
+
+pub before-asym : (s t : Time) → before s t ≡ true → before t s ≡ false
+unfolding before
+before-asym s t h = le-ltb (t .n * s .d) (s .n * t .d) (omega (arith, ltb-true))
+
+-- where t is not before s, nor u before t, u is not before s
+pub before-step : (s t u : Time) → Proper t → before t s ≡ false → before u t ≡ false → before u s ≡ false
+unfolding before
+before-step s t u p h k = le-ltb (u .n * s .d) (s .n * u .d) (cross-trans (s .n) (s .d) (t .n) (t .d) (u .n) (u .d) p (ltb-false _ _ h) (ltb-false _ _ k))
+
+pub before-trans : (s t u : Time) → Proper s → before s t ≡ true → before t u ≡ true → before s u ≡ true
+before-trans s t u p h k = go (before s u) refl
+  where
+    go : (b : Bool) → before s u ≡ b → b ≡ true
+    go true e = refl
+    go false e = sym (before-step u s t p e (before-asym s t h)) ∙ k
+
+pub before-total : (s t : Time) → before s t ≡ false → before t s ≡ false → same s t ≡ true
+unfolding before same
+before-total s t h k = eq-eqb (s .n * t .d) (t .n * s .d) (omega (arith, ltb-false))
+
+-- ---- the least and the greatest of a list
+pub ranks-before : Ranks Proper before
+ranks-before = record { irrefl = λ t p. before-irrefl t; asym = λ s t p q. before-asym s t; step = λ s t u p q r. before-step s t u q }
+
+pub ranks-after : Ranks Proper (λ s t. before t s)
+ranks-after = ranks-flip ranks-before
+
+pub least-member : (t : Time) (l : List Time) → Mem (least (t ∷ l)) (t ∷ l)
+least-member t l = best-member before (time 0 1) t l
+
+pub least-bound : (l : List Time) → ((t : Time) → Mem t l → Proper t) → (t : Time) → Mem t l → before t (least l) ≡ false
+least-bound l = best-bound ranks-before (time 0 1) l
+
+pub greatest-member : (t : Time) (l : List Time) → Mem (greatest (t ∷ l)) (t ∷ l)
+greatest-member t l = best-member (λ s t. before t s) (time 0 1) t l
+
+pub greatest-bound : (l : List Time) → ((t : Time) → Mem t l → Proper t) → (t : Time) → Mem t l → before (greatest l) t ≡ false
+greatest-bound l = best-bound ranks-after (time 0 1) l
+
+-- ---- the same value
+pub same-refl : (t : Time) → same t t ≡ true
+unfolding same
+same-refl t = eq-eqb (t .n * t .d) (t .n * t .d) refl
+
+pub same-sym : (s t : Time) → same s t ≡ true → same t s ≡ true
+unfolding same
+same-sym s t h = eq-eqb (t .n * s .d) (s .n * t .d) (sym (eqb-true (s .n * t .d) (t .n * s .d) h))
+
+pub same-trans : (s t u : Time) → Proper t → same s t ≡ true → same t u ≡ true → same s u ≡ true
+unfolding same
+same-trans s t u p h k =
+    let a = eqb-true (s .n * t .d) (t .n * s .d) h in
+    let b = eqb-true (t .n * u .d) (u .n * t .d) k in
+    eq-eqb (s .n * u .d) (u .n * s .d)
+    (le-antisymm (cross-trans (s .n) (s .d) (t .n) (t .d) (u .n) (u .d) p (le-of-eq a) (le-of-eq b)) (cross-trans (u .n) (u .d) (t .n) (t .d) (s .n) (s .d) p (le-of-eq (sym b)) (le-of-eq (sym a))))
+
+-- ---- lowest terms
+-- n and d, each the common divisor times its quotient
+left-times : (n d : ℕ) → gcd n d * (n / gcd n d) ≡ n
+left-times n d = mul-div-cancel' (gcd n d) (gcd-divides-left n d)
+
+right-times : (n d : ℕ) → gcd n d * (d / gcd n d) ≡ d
+right-times n d = mul-div-cancel' (gcd n d) (gcd-divides-right n d)
+
+pub reduced-same : (n d : ℕ) → reduced n d .n * d ≡ n * reduced n d .d
+unfolding reduced
+reduced-same n d = omega (arith, ap (λ t. n / gcd n d * t) (right-times n d), ap (λ t. t * (d / gcd n d)) (left-times n d))
+
+pub reduced-reduced : (n d : ℕ) → 1 ≤ d → Reduced (reduced n d)
+unfolding reduced
+reduced-reduced n d p =
+    let g = gcd n d in
+    record {
+      proper = pos-of-dvd-of-pos (rw (right-times n d) at (dvd-mul-left (d / g) g)) p;
+      coprime = eq-of-mul-eq-mul-left g (gcd-pos n d p) (gcd (n / g) (d / g)) 1 (sym (gcd-scale g (n / g) (d / g)) ∙ ap₂ gcd (left-times n d) (right-times n d) ∙ sym (mul-one g));
+    }
+
+pub reduced-bound : (n d : ℕ) → (reduced n d .n ≤ n) × (reduced n d .d ≤ d)
+unfolding reduced
+reduced-bound n d = (div-le-self n (gcd n d), div-le-self d (gcd n d))
+
+pub reduced-short : (n d : ℕ) → Short (time n d) → Short (reduced n d)
+reduced-short n d h = record { n-short = omega (arith, reduced-bound n d); d-short = omega (arith, reduced-bound n d) }
+
+-- s's d divides t's, where s is in lowest terms and has t's value
+same-divides : (s t : Time) → Reduced s → s .n * t .d ≡ t .n * s .d → s .d ∣ t .d
+same-divides s t r e = coprime-divides (s .d) (s .n) (t .d) (gcd-comm (s .d) (s .n) ∙ r .coprime) (rw e (dvd-mul-left (s .d) (t .n)))
+
+pub same-reduced : (s t : Time) → Reduced s → Reduced t → same s t ≡ true → s ≡ t
+unfolding same
+same-reduced s t r q h =
+    let e = eqb-true (s .n * t .d) (t .n * s .d) h in
+    let d-same : s .d ≡ t .d = dvd-antisymm (same-divides s t r e) (same-divides t s q (sym e)) in
+    let n-same : s .n ≡ t .n = eq-of-mul-eq-mul-right (t .d) (q .proper) (s .n) (t .n) (e ∙ ap (λ k. t .n * k) d-same) in
+    ap₂ time n-same d-same
+
+-- the cross products of short times fit eight bytes
+pub short-cross : (s t : Time) → Short s → Short t → s .n * t .d < 2 ^ 64
+short-cross s t h k = omega (arith, mul-le-mul {n₂ = 4294967295} {m₂ = 4294967295} (le-pred-of-lt (h .n-short)) (le-pred-of-lt (k .d-short)))

@@ -1,0 +1,11 @@
+pub mod Parts
+pub mod RingLaws
+pub mod Bound
+pub mod Ring
+pub mod Linear
+pub mod Order
+pub mod Machine
+pub mod Indices
+pub mod Members
+pub mod Divisors
+pub mod Fractions

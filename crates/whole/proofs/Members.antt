@@ -1,0 +1,153 @@
+-- Members of a list, by their places and through `map` and `++`, and the best member: it is one of them, and none is better.
+-- Assumes nothing.
+use mathlib.Core.Path.{_≡_, refl, ap}
+use mathlib.Core.Bool.{Bool, true, false, cond}
+use mathlib.Core.Logic.{_⊎_, inl, inr, ⊎-elim}
+use mathlib.Core.List.{List, [], _∷_, _++_, map}
+use Prim.Native.Nat.{ℕ, zero, suc, _+_, _≤_, _<_}
+use native.Mathlib.Numerals.{add-one}
+use native.Mathlib.Omega.{arith}
+use lib.IntN.{ℤ}
+use lib.ListN.{length, getD, take}
+use lib.Seq.{take-suc}
+use lib.Signed.{ltZ, _≤ℤ_}
+use Rattle.whole.specs.Member.{Mem}
+use Rattle.whole.specs.Best.{betterOf, bestFrom, best}
+use Rattle.whole.proofs.Linear.{ints}
+
+-- ---- members and places
+pub mem-at : {A : Type 0} (l : List A) (i : ℕ) (d : A) → i < length l → Mem (getD l i d) l
+mem-at [] i d h = absurd (omega arith)
+mem-at (x ∷ l) zero d h = inl refl
+mem-at (x ∷ l) (suc i) d h = inr (mem-at l i d (omega arith))
+
+pub at-mem : {A : Type 0} (a : A) (l : List A) (d : A) → Mem a l → (i : ℕ) × (i < length l) × (a ≡ getD l i d)
+at-mem a [] d m = absurd m
+at-mem a (x ∷ l) d (inl e) = (zero, omega arith, e)
+at-mem a (x ∷ l) d (inr m) =
+    let r = at-mem a l d m in
+    (suc (r .0), omega arith, r .2)
+
+pub mem-map : {A B : Type 0} (f : A → B) (a : A) (l : List A) → Mem a l → Mem (f a) (map f l)
+mem-map f a [] m = absurd m
+mem-map f a (x ∷ l) (inl e) = inl (ap f e)
+mem-map f a (x ∷ l) (inr m) = inr (mem-map f a l m)
+
+pub map-mem : {A B : Type 0} (f : A → B) (b : B) (l : List A) → Mem b (map f l) → (a : A) × Mem a l × (b ≡ f a)
+map-mem f b [] m = absurd m
+map-mem f b (x ∷ l) (inl e) = (x, inl refl, e)
+map-mem f b (x ∷ l) (inr m) =
+    let r = map-mem f b l m in
+    (r .0, inr (r .1), r .2)
+
+pub mem-append-left : {A : Type 0} (a : A) (l r : List A) → Mem a l → Mem a (l ++ r)
+mem-append-left a [] r m = absurd m
+mem-append-left a (x ∷ l) r (inl e) = inl e
+mem-append-left a (x ∷ l) r (inr m) = inr (mem-append-left a l r m)
+
+pub mem-append-right : {A : Type 0} (a : A) (l r : List A) → Mem a r → Mem a (l ++ r)
+mem-append-right a [] r m = m
+mem-append-right a (x ∷ l) r m = inr (mem-append-right a l r m)
+
+pub append-mem : {A : Type 0} (a : A) (l r : List A) → Mem a (l ++ r) → Mem a l ⊎ Mem a r
+append-mem a [] r m = inr m
+append-mem a (x ∷ l) r (inl e) = inl (inl e)
+append-mem a (x ∷ l) r (inr m) = ⊎-elim (λ k. inl (inr k)) inr (append-mem a l r m)
+
+-- ---- the best of a list
+-- which of two is the better
+data Which {A : Type 0} (better : A → A → Bool) (x y : A) : A → Type 0 where
+  new : better y x ≡ true → Which better x y y
+  old : better y x ≡ false → Which better x y x
+
+which : {A : Type 0} (better : A → A → Bool) (x y : A) → Which better x y (betterOf better x y)
+which better x y = go (better y x) refl
+  where
+    go : (t : Bool) → better y x ≡ t → Which better x y (cond t y x)
+    go true e = new e
+    go false e = old e
+
+betterOf-member : {A : Type 0} (better : A → A → Bool) (m x y w : A) (l : List A) → Which better x y w → Mem m (w ∷ l) → Mem m (x ∷ y ∷ l)
+betterOf-member better m x y w l (new e) n = inr n
+betterOf-member better m x y w l (old e) (inl q) = inl q
+betterOf-member better m x y w l (old e) (inr n) = inr (inr n)
+
+from-member : {A : Type 0} (better : A → A → Bool) (x : A) (l : List A) → Mem (bestFrom better x l) (x ∷ l)
+unfolding bestFrom
+from-member better x [] = inl refl
+from-member better x (y ∷ l) =
+    betterOf-member better (bestFrom better (betterOf better x y) l) x y (betterOf better x y) l (which better x y) (from-member better (betterOf better x y) l)
+
+pub best-member : {A : Type 0} (better : A → A → Bool) (none x : A) (l : List A) → Mem (best better none (x ∷ l)) (x ∷ l)
+unfolding best
+best-member better none x l = from-member better x l
+
+-- `better` ranks the values with P: none is better than itself, of two at most one is the better, and where y is no better than x, what is no better than y is no better than x
+pub record Ranks {A : Type 0} (P : A → Type 0) (better : A → A → Bool) : Type 0 where
+  pub irrefl : (x : A) → P x → better x x ≡ false
+  pub asym : (x y : A) → P x → P y → better x y ≡ true → better y x ≡ false
+  pub step : (x y z : A) → P x → P y → P z → better y x ≡ false → better z y ≡ false → better z x ≡ false
+
+-- the same ranks from the other end
+pub ranks-flip : {A : Type 0} {P : A → Type 0} {better : A → A → Bool} → Ranks P better → Ranks P (λ x y. better y x)
+ranks-flip r = record { irrefl = r .irrefl; asym = λ x y p q. r .asym y x q p; step = λ x y z p q s h k. r .step z y x s q p k h }
+
+module _ {A : Type 0} {P : A → Type 0} {better : A → A → Bool} (r : Ranks P better) where
+  -- neither of two is better than the better of them
+  betterOf-bound : (x y w : A) → P x → P y → Which better x y w → P w × (better x w ≡ false) × (better y w ≡ false)
+  betterOf-bound x y w p q (new e) = (q, r .asym y x q p e, r .irrefl y q)
+  betterOf-bound x y w p q (old e) = (p, r .irrefl x p, e)
+
+  from-bound : (x : A) (l : List A) → ((m : A) → Mem m (x ∷ l) → P m) → (m : A) → Mem m (x ∷ l) → better m (bestFrom better x l) ≡ false
+  unfolding bestFrom
+  from-bound x [] all m (inl e) = rw e (r .irrefl x (all x (inl refl)))
+  from-bound x [] all m (inr n) = absurd n
+  from-bound x (y ∷ l) all m n =
+      let w = betterOf better x y in
+      let all-w : (k : A) → Mem k (w ∷ l) → P k = λ k i. all k (betterOf-member better k x y w l (which better x y) i) in
+      let two = betterOf-bound x y w (all x (inl refl)) (all y (inr (inl refl))) (which better x y) in
+      let bound = from-bound w l all-w in
+      let b = bestFrom better w l in
+      let beaten : (z : A) → P z → better z w ≡ false → better z b ≡ false = λ z p h. r .step b w z (all-w b (from-member better w l)) (two .0) p (bound w (inl refl)) h in
+      ⊎-elim (λ e. rw e (beaten x (all x (inl refl)) (two .1))) (⊎-elim (λ e. rw e (beaten y (all y (inr (inl refl))) (two .2))) (λ i. bound m (inr i))) n
+
+  pub best-bound : (none : A) (l : List A) → ((m : A) → Mem m l → P m) → (m : A) → Mem m l → better m (best better none l) ≡ false
+  unfolding best
+  best-bound none [] all m n = absurd n
+  best-bound none (x ∷ l) all m n = from-bound x l all m n
+
+-- ---- one more member at the end
+from-snoc : {A : Type 0} (better : A → A → Bool) (x : A) (l : List A) (y : A) → bestFrom better x (l ++ (y ∷ [])) ≡ betterOf better (bestFrom better x l) y
+unfolding bestFrom
+from-snoc better x [] y = refl
+from-snoc better x (z ∷ l) y = from-snoc better (betterOf better x z) l y
+
+pub best-snoc : {A : Type 0} (better : A → A → Bool) (none x : A) (l : List A) (y : A) → best better none (x ∷ (l ++ (y ∷ []))) ≡ betterOf better (best better none (x ∷ l)) y
+unfolding best
+best-snoc better none x l y = from-snoc better x l y
+
+pub best-take : {A : Type 0} (better : A → A → Bool) (none : A) (l : List A) (i : ℕ) → 1 ≤ i → i < length l →
+    best better none (take (i + 1) l) ≡ betterOf better (best better none (take i l)) (getD l i none)
+best-take better none [] i h k = absurd (omega arith)
+best-take better none (x ∷ l) zero h k = absurd (omega arith)
+best-take better none (x ∷ l) (suc j) h k = rw (add-one, take-suc l j none (omega arith)) (best-snoc better none x (take j l) (getD l j none))
+
+-- ---- integers: the least of a list is the best by `ltZ`, the greatest the best by `ltZ` turned round; `best-member` serves both
+abbrev pub Any : ℤ → Type 0
+Any z = Unit {0}
+
+pub ranks-ltZ : Ranks Any ltZ
+ranks-ltZ = record { irrefl = λ x p. omega ints; asym = λ x y p q h. omega ints; step = λ x y z p q s h k. omega ints }
+
+pub ranks-gtZ : Ranks Any (λ a b. ltZ b a)
+ranks-gtZ = ranks-flip ranks-ltZ
+
+pub best-ltZ-bound : (none : ℤ) (l : List ℤ) (m : ℤ) → Mem m l → best ltZ none l ≤ℤ m
+best-ltZ-bound none l m n =
+    let h = best-bound ranks-ltZ none l (λ k i. tt) m n in
+    omega ints
+
+pub best-gtZ-bound : (none : ℤ) (l : List ℤ) (m : ℤ) → Mem m l → m ≤ℤ best (λ a b. ltZ b a) none l
+best-gtZ-bound none l m n =
+    let h = best-bound ranks-gtZ none l (λ k i. tt) m n in
+    omega ints

@@ -1,0 +1,94 @@
+-- The order of the integers: transitivity, sums, products, cancellation of a positive factor, fractions, and the cases.
+-- Assumes nothing.
+use mathlib.Core.Path.{_≡_, refl}
+use mathlib.Core.Logic.{_⊎_, inl, inr, ⊎-elim}
+use mathlib.Core.List.{[], _∷_}
+use Rattle.whole.proofs.Ring.{reps}
+use Rattle.whole.proofs.Linear.{ints, lin≤, ≤lin, lin<, <lin}
+use mathlib.Core.Bool.{Bool, true, false}
+use Prim.Native.Nat.{zero, suc, _*_}
+use native.Mathlib.Omega.{arith}
+use lib.Dec.{le→leb, lt→ltb}
+use lib.IntN.{ℤ, pos, negsuc, _+ℤ_, _*ℤ_, _-ℤ_}
+use lib.Signed.{_≤ℤ_, _<ℤ_, leZ, clashℤ}
+use Rattle.whole.proofs.Parts.{diff, split}
+
+-- ---- linear, each by its integers as differences of naturals
+pub ≤-trans : (a b c : ℤ) → a ≤ℤ b → b ≤ℤ c → a ≤ℤ c
+≤-trans a b c = rw (split a, split b, split c) (simp diff (omega arith))
+
+pub ≤-antisym : (a b : ℤ) → a ≤ℤ b → b ≤ℤ a → a ≡ b
+≤-antisym a b = rw (split a, split b) (simp diff (omega arith))
+
+pub <-le : (a b : ℤ) → a <ℤ b → a ≤ℤ b
+<-le a b = rw (split a, split b) (simp diff (omega arith))
+
+pub add-le : (a b c d : ℤ) → a ≤ℤ b → c ≤ℤ d → (a +ℤ c) ≤ℤ (b +ℤ d)
+add-le a b c d = rw (split a, split b, split c, split d) (simp diff (omega arith))
+
+pub sub-nonneg : (a b : ℤ) → pos 0 ≤ℤ (b -ℤ a) → a ≤ℤ b
+sub-nonneg a b = rw (split a, split b) (simp diff (omega arith))
+
+pub nonneg-sub : (a b : ℤ) → a ≤ℤ b → pos 0 ≤ℤ (b -ℤ a)
+nonneg-sub a b = rw (split a, split b) (simp diff (omega arith))
+
+pub sub-pos : (a b : ℤ) → pos 0 <ℤ (b -ℤ a) → a <ℤ b
+sub-pos a b = rw (split a, split b) (simp diff (omega arith))
+
+pub pos-sub : (a b : ℤ) → a <ℤ b → pos 0 <ℤ (b -ℤ a)
+pos-sub a b = rw (split a, split b) (simp diff (omega arith))
+
+-- ---- cases
+pub ≤-or-< : (a b : ℤ) → (a ≤ℤ b) ⊎ (b <ℤ a)
+≤-or-< a b = go (leZ a b) refl
+  where
+    go : (t : Bool) → leZ a b ≡ t → (a ≤ℤ b) ⊎ (b <ℤ a)
+    go true e = inl (omega ints)
+    go false e = inr (omega ints)
+
+pub cases : (a b : ℤ) → (a <ℤ b) ⊎ ((a ≡ b) ⊎ (b <ℤ a))
+cases a b = ⊎-elim (λ h. ⊎-elim (λ k. inr (inl (omega ints))) inl (≤-or-< b a)) (λ h. inr (inr h)) (≤-or-< a b)
+
+-- ---- products
+pub mul-nonneg : (a b : ℤ) → pos 0 ≤ℤ a → pos 0 ≤ℤ b → pos 0 ≤ℤ (a *ℤ b)
+mul-nonneg (pos a) (pos b) h k = record { le = le→leb 0 (a * b) (omega arith) }
+mul-nonneg (pos a) (negsuc b) h k = absurd (k .le)
+mul-nonneg (negsuc a) b h k = absurd (h .le)
+
+pub mul-pos : (a b : ℤ) → pos 0 <ℤ a → pos 0 <ℤ b → pos 0 <ℤ (a *ℤ b)
+mul-pos (pos zero) b h k = absurd (h .lt)
+mul-pos (pos (suc a)) (pos zero) h k = absurd (k .lt)
+mul-pos (pos (suc a)) (pos (suc b)) h k = record { lt = lt→ltb 0 (suc a * suc b) (omega arith) }
+mul-pos (pos (suc a)) (negsuc b) h k = absurd (k .lt)
+mul-pos (negsuc a) b h k = absurd (h .lt)
+
+pub sq-nonneg : (a : ℤ) → pos 0 ≤ℤ (a *ℤ a)
+sq-nonneg (pos a) = record { le = le→leb 0 (a * a) (omega arith) }
+sq-nonneg (negsuc a) = record { le = le→leb 0 (suc a * suc a) (omega arith) }
+
+pub mul-≤ : (a b c : ℤ) → a ≤ℤ b → pos 0 ≤ℤ c → (a *ℤ c) ≤ℤ (b *ℤ c)
+mul-≤ a b c h k =
+    let ρ = a ∷ b ∷ c ∷ [] in
+    ≤lin ρ (search reps depth 9) tt (omega (arith, lin≤ ρ (search reps depth 9) tt (mul-nonneg (b -ℤ a) c (nonneg-sub a b h) k)))
+
+pub mul-< : (a b c : ℤ) → a <ℤ b → pos 0 <ℤ c → (a *ℤ c) <ℤ (b *ℤ c)
+mul-< a b c h k =
+    let ρ = a ∷ b ∷ c ∷ [] in
+    <lin ρ (search reps depth 9) tt (omega (arith, lin< ρ (search reps depth 9) tt (mul-pos (b -ℤ a) c (pos-sub a b h) k)))
+
+pub cancel-≤ : (a b c : ℤ) → pos 0 <ℤ c → (a *ℤ c) ≤ℤ (b *ℤ c) → a ≤ℤ b
+cancel-≤ a b c k h = ⊎-elim (λ l. l) (λ l. clashℤ (mul-< b a c l k) h) (≤-or-< a b)
+
+pub cancel-< : (a b c : ℤ) → pos 0 <ℤ c → (a *ℤ c) <ℤ (b *ℤ c) → a <ℤ b
+cancel-< a b c k h = ⊎-elim (λ l. clashℤ h (mul-≤ b a c l (<-le (pos 0) c k))) (λ l. l) (≤-or-< b a)
+
+pub cancel-≡ : (a b c : ℤ) → pos 0 <ℤ c → a *ℤ c ≡ b *ℤ c → a ≡ b
+cancel-≡ a b c k e = ≤-antisym a b (cancel-≤ a b c k (omega ints)) (cancel-≤ b a c k (omega ints))
+
+-- fractions n / d with 0 < d, compared by cross multiplication: the order is transitive
+pub frac-trans : (n d n′ d′ n″ d″ : ℤ) → pos 0 <ℤ d → pos 0 <ℤ d′ → pos 0 <ℤ d″ → (n *ℤ d′) ≤ℤ (n′ *ℤ d) → (n′ *ℤ d″) ≤ℤ (n″ *ℤ d′) → (n *ℤ d″) ≤ℤ (n″ *ℤ d)
+frac-trans n d n′ d′ n″ d″ p p′ p″ h k =
+    let ρ = n ∷ d ∷ n′ ∷ d′ ∷ n″ ∷ d″ ∷ [] in
+    let h₂ = mul-≤ (n *ℤ d′) (n′ *ℤ d) d″ h (<-le (pos 0) d″ p″) in
+    let k₂ = mul-≤ (n′ *ℤ d″) (n″ *ℤ d′) d k (<-le (pos 0) d p) in
+    cancel-≤ (n *ℤ d″) (n″ *ℤ d) d′ p′ (≤lin ρ (search reps depth 9) tt (omega (arith, lin≤ ρ (search reps depth 9) tt h₂, lin≤ ρ (search reps depth 9) tt k₂)))
