@@ -1,1 +1,3 @@
+pub mod Joined
+pub mod Chunks
 pub mod Printed

@@ -1,6 +1,7 @@
 -- The four examples hold by computation: what the program prints for each input, and that each input is the line of its case's move.
 use mathlib.Core.Path.{_≡_, refl}
-use mathlib.Core.List.{List, [], _∷_, map, flatMap}
+use mathlib.Core.List.{[], _∷_, map, flatMap}
+use Prim.Native.Nat.{ℕ}
 use lib.ListN.{getD}
 use Rattle.whole.specs.Lowest.{lowest, some, every}
 use Rattle.whole.specs.Best.{best}
@@ -16,8 +17,9 @@ use Rattle.verdict.specs.Showing.{cornerInside, edgesMeet, meetingEdge, edgeMet
 use Rattle.verdict.specs.Verdict.{bearing, verdictFrom, verdict}
 use Rattle.verdict.specs.Refusal.{refusal}
 use Rattle.verdict.specs.Answer.{answerUnless}
+use Rattle.verdict.specs.Cases.{Case, cases}
 use Rattle.frame.specs.Hex.{character, digit, hex, unhex, digits}
-use Rattle.frame.specs.MoveFrame.{cornersIn, moveOfFrame}
+use Rattle.frame.specs.MoveFrame.{moveFrame, moveLine, cornersIn, moveOfFrame}
 use Rattle.frame.specs.AnswerFrame.{answerFrame, answerLine}
 use Rattle.frame.specs.Reading.{refusalOfFrame, refusalOfLine, moveOfLine, answerOfLine}
 use Rattle.lines.specs.Lines.{linesFrom}
@@ -27,3 +29,8 @@ use Rattle.lines.specs.Examples.{Example, text, examples}
 pub printed : map (λ (e : Example). output (e .given)) examples ≡ map (λ (e : Example). e .printed) examples
 unfolding lowest some every best before same reduced cross dot low high shares inside meet left badEdge isSound firstThatApplies counted placed sideOf windowAhead windowStill window span spansTo spans cornerInside edgesMeet meetingEdge edgeMet showingOf showing bearing verdictFrom verdict refusal answerUnless character digit hex unhex digits cornersIn moveOfFrame answerFrame answerLine refusalOfFrame refusalOfLine moveOfLine answerOfLine linesFrom output text flatMap
 printed = refl
+
+-- the cases P1, P3, P6 and P12 stand at 0, 2, 5 and 11 of the table
+pub given : map (λ (e : Example). e .given) examples ≡ map (λ (i : ℕ). getD (map (λ (c : Case). moveLine (c .asked)) cases) i []) (0 ∷ 2 ∷ 5 ∷ 11 ∷ [])
+unfolding character hex moveFrame moveLine text flatMap
+given = refl

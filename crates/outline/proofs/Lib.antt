@@ -1,2 +1,6 @@
 pub mod Soundness
+pub mod Reasons
+pub mod Ranges
+pub mod Pairs
 pub mod Places
+pub mod Testing

@@ -13,7 +13,8 @@ use Rattle.whole.specs.Lowest.{lowest, every}
 use Rattle.plane.specs.Point.{origin, step, cross}
 use Rattle.plane.specs.Edges.{corner, next, edge}
 use Rattle.outline.specs.Sound.{left, badEdge}
-use Rattle.outline.specs.Held.{Held, cornersHeld}
+use Rattle.outline.specs.Refusal.{bothInRange, placed}
+use Rattle.outline.specs.Held.{Kept, cornersHeld}
 use Rattle.outline.specs.declared.Outline.{Outline}
 
 pub next-below : (n i : ℕ) → i < n → next n i < n
@@ -23,7 +24,7 @@ next-below n i h = go (ltb (i + 1) n) (ltb-true (i + 1) n)
     go true f = f (λ _. true)
     go false f = omega arith
 
-module _ (o : Outline) (h : Held o) where
+module _ (o : Outline) (h : Kept o) where
   pub held-length : length (cornersHeld o) ≡ o .count
   held-length = length-take-le (o .count) (o .corners) (let e = h .places in let k = h .count in omega arith)
 
@@ -43,3 +44,7 @@ module _ (o : Outline) (h : Held o) where
   pub held-bad-edge : badEdge (cornersHeld o) ≡ lowest (λ i. not (every (left (cornersHeld o) i) (o .count))) (o .count)
   unfolding badEdge
   held-bad-edge = ap (λ n. lowest (λ i. not (every (left (cornersHeld o) i) n)) n) held-length
+
+  pub held-placed : placed (cornersHeld o) ≡ every (λ i. bothInRange (corner (cornersHeld o) i)) (o .count)
+  unfolding placed
+  held-placed = ap (every (λ i. bothInRange (corner (cornersHeld o) i))) held-length

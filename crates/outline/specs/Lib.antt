@@ -3,3 +3,4 @@ pub mod Star
 pub mod Coordinates
 pub mod Refusal
 pub mod Held
+pub mod Tested

@@ -1,15 +1,20 @@
 // Outlines: corners in order, counterclockwise, and the test that they are sound.
 ghost use mathlib.Core.Path.{_≡_};
-ghost use mathlib.Core.Bool.{_||_};
-ghost use Prim.Native.Nat.{_<_, _≤_};
+ghost use mathlib.Core.Bool.{_||_, _&&_};
+ghost use Prim.Native.Nat.{_<_, _≤_, _*_, _/_, _%_};
 ghost use lib.Dec.{eqb};
 ghost use lib.IntN.{pos};
+ghost use lib.ListN.{length};
 ghost use lib.Signed.{ltZ};
 ghost use Rattle.whole.specs.Lowest.{every};
 ghost use Rattle.plane.specs.Point.{step, cross};
+ghost use Rattle.plane.specs.Near.{Near};
 ghost use Rattle.plane.specs.Edges.{next};
 ghost use Rattle.outline.specs.Sound.{left, badEdge};
-ghost use Rattle.outline.specs.Held.{Near, Held, cornersHeld};
+ghost use Rattle.outline.specs.Held.{Kept, Held, cornersHeld, held};
+ghost use Rattle.outline.specs.Coordinates.{cornersOf};
+ghost use Rattle.outline.specs.Refusal.{inRange, bothInRange, placed, counted};
+ghost use Rattle.outline.specs.Tested.{tested, refusedAs, interval};
 use plane::Corner;
 
 // Sixteen corner places held by value, unused ones zero, and the count of those used.
@@ -18,9 +23,21 @@ pub struct Outline {
     pub count: usize,
 }
 
+// The least and the greatest projection of an outline on a direction.
+pub struct Interval {
+    pub low: i64,
+    pub high: i64,
+}
+
+// What the outline test answers: the number of its refusal, 0 for none, and the outline, all zeros where it is refused.
+pub struct Tested {
+    pub refusal: u8,
+    pub outline: Outline,
+}
+
 // Above zero where p lies to the left of the edge from a to b.
 fn turn(a: Corner, b: Corner, p: Corner) -> i64
-    requires { ⌜ Near a × Near b × Near p ⌝ }
+    requires { ⌜ Near 10000 a × Near 10000 b × Near 10000 p ⌝ }
     ensures { λ r. ⌜ r ≡ cross (step a b) (step a p) ⌝ }
 {
     (b.x - a.x) * (p.y - a.y) - (b.y - a.y) * (p.x - a.x)
@@ -39,7 +56,7 @@ pub fn next(n: usize, i: usize) -> usize
 
 // Whether corner k, which is p, is an end of the edge from corner i, a, to corner j, b, or lies strictly to its left.
 fn is_left(a: Corner, b: Corner, p: Corner, i: usize, j: usize, k: usize) -> bool
-    requires { ⌜ Near a × Near b × Near p ⌝ }
+    requires { ⌜ Near 10000 a × Near 10000 b × Near 10000 p ⌝ }
     ensures { λ r. ⌜ r ≡ (eqb k i || (eqb k j || ltZ (pos 0) (cross (step a b) (step a p)))) ⌝ }
 {
     if k == i {
@@ -85,4 +102,124 @@ pub fn bad_edge(o: Outline) -> usize
         i += 1;
     }
     n
+}
+
+// The interval of an outline in the direction d, in one pass over its corners.
+pub fn project(o: Outline, d: Corner) -> Interval
+    requires { ⌜ Held o × (1 ≤ o .count) × Near 20000 d ⌝ }
+    ensures { λ r. ⌜ r ≡ interval d (cornersHeld o) ⌝ }
+{
+    let n = o.count;
+    let first = o.corners[0];
+    let mut low = plane::dot(d, first);
+    let mut high = low;
+    let mut k: usize = 1;
+    while k < n {
+        let p = o.corners[k];
+        let v = plane::dot(d, p);
+        low = whole::lesser(low, v);
+        high = whole::greater(high, v);
+        k += 1;
+    }
+    Interval { low, high }
+}
+
+// Whether z is from -10,000 to 10,000.
+pub fn is_in_range(z: i64) -> bool
+    ensures { λ r. ⌜ r ≡ inRange z ⌝ }
+{
+    if z < -10000 {
+        return false;
+    }
+    z <= 10000
+}
+
+// Whether both coordinates of p are.
+pub fn is_near(p: Corner) -> bool
+    ensures { λ r. ⌜ r ≡ bothInRange p ⌝ }
+{
+    if !is_in_range(p.x) {
+        return false;
+    }
+    is_in_range(p.y)
+}
+
+// Whether every corner of o is.
+pub fn is_placed(o: Outline) -> bool
+    requires { ⌜ Kept o ⌝ }
+    ensures { λ r. ⌜ r ≡ placed (cornersHeld o) ⌝ }
+{
+    let n = o.count;
+    let mut i: usize = 0;
+    while i < n {
+        let p = o.corners[i];
+        if !is_near(p) {
+            return false;
+        }
+        i += 1;
+    }
+    true
+}
+
+// Whether a list of so many coordinates is one of 3 to 16 corners.
+pub fn is_counted(length: usize) -> bool
+    ensures { λ r. ⌜ r ≡ (eqb (length % 2) 0 && counted (length / 2)) ⌝ }
+{
+    if length % 2 != 0 {
+        return false;
+    }
+    if length < 6 {
+        return false;
+    }
+    length <= 32
+}
+
+// The outline of a list of coordinates that has 3 to 16 corners.
+pub fn outline_of(xs: &[i64]) -> Outline
+    requires { ⌜ (length (now xs) % 2 ≡ 0) × (length (now xs) ≤ 32) ⌝ }
+    ensures { λ r. ⌜ r ≡ held (cornersOf (now (xs .entry))) ⌝ }
+{
+    let n = xs.len() / 2;
+    let mut corners = [Corner { x: 0, y: 0 }; 16];
+    let mut i: usize = 0;
+    while i < n {
+        let x = xs[2 * i];
+        let y = xs[2 * i + 1];
+        corners[i] = Corner { x, y };
+        i += 1;
+    }
+    Outline { corners, count: n }
+}
+
+// The answer of a test that refuses.
+fn refused(number: u8) -> Tested
+    ensures { λ r. ⌜ r ≡ refusedAs number ⌝ }
+{
+    Tested {
+        refusal: number,
+        outline: Outline {
+            corners: [Corner { x: 0, y: 0 }; 16],
+            count: 0,
+        },
+    }
+}
+
+// The outline test: the outline of a list of coordinates x, y, x, y, .., or 4, 7 or 8, the first that applies.
+pub fn test(xs: &[i64]) -> Tested
+    ensures { λ r. ⌜ r ≡ tested (now (xs .entry)) ⌝ }
+{
+    if !is_counted(xs.len()) {
+        return refused(4);
+    }
+    let o = outline_of(xs);
+    if !is_placed(o) {
+        return refused(7);
+    }
+    if bad_edge(o) < o.count {
+        return refused(8);
+    }
+    Tested {
+        refusal: 0,
+        outline: o,
+    }
 }

@@ -1,4 +1,5 @@
 pub mod Point
+pub mod Near
 pub mod Motion
 pub mod Edges
 pub mod Interval

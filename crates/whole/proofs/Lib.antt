@@ -7,5 +7,6 @@ pub mod Order
 pub mod Machine
 pub mod Indices
 pub mod Members
+pub mod Filled
 pub mod Divisors
 pub mod Fractions

@@ -1,6 +1,8 @@
 // Whole numbers and the fractions that times are.
 ghost use mathlib.Core.Path.{_≡_};
 ghost use Prim.Native.Nat.{_≤_};
+ghost use lib.Signed.{ltZ};
+ghost use Rattle.whole.specs.Best.{betterOf};
 ghost use Rattle.whole.specs.Time.{Short, gcd, reduced, before};
 
 // The fraction n/d of a unit of time; d is at least 1.
@@ -38,4 +40,24 @@ pub fn before(s: Time, t: Time) -> bool
     ensures { λ r. ⌜ r ≡ before s t ⌝ }
 {
     s.n * t.d < t.n * s.d
+}
+
+// The lesser of a and b.
+pub fn lesser(a: i64, b: i64) -> i64
+    ensures { λ r. ⌜ r ≡ betterOf ltZ a b ⌝ }
+{
+    if b < a {
+        return b;
+    }
+    a
+}
+
+// The greater of a and b.
+pub fn greater(a: i64, b: i64) -> i64
+    ensures { λ r. ⌜ r ≡ betterOf (λ x y. ltZ y x) a b ⌝ }
+{
+    if a < b {
+        return b;
+    }
+    a
 }

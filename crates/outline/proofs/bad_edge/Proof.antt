@@ -32,7 +32,7 @@ returns : tie.Need-returns Inv-loop μ-loop
 returns c =
     let at = c .before .before .before in
     let o = at .before .args .o in
-    sym (held-bad-edge o (at .before .pre) ∙ lowest-is (λ i. not (every (left (cornersHeld o) i) (o .count))) (o .count) (at .loop .i) (c .before .before .loop-test .taken)
+    sym (held-bad-edge o (at .before .pre .kept) ∙ lowest-is (λ i. not (every (left (cornersHeld o) i) (o .count))) (o .count) (at .loop .i) (c .before .before .loop-test .taken)
     (ap not (sym (c .before .is-edge-sound .ensures)) ∙ c .if1 .taken) (at .loop .inv .1))
 
 add-i : tie.Need-add-i Inv-loop μ-loop
@@ -50,7 +50,7 @@ returns-2 : tie.Need-returns-2 Inv-loop μ-loop
 returns-2 c =
     let at = c .before in
     let o = at .before .args .o in
-    sym (held-bad-edge o (at .before .pre) ∙ lowest-none (λ i. not (every (left (cornersHeld o) i) (o .count))) (o .count) (λ m h. at .loop .inv .1 m (omega arith)))
+    sym (held-bad-edge o (at .before .pre .kept) ∙ lowest-none (λ i. not (every (left (cornersHeld o) i) (o .count))) (o .count) (λ m h. at .loop .inv .1 m (omega arith)))
 
 pub bad-edge-spec : {M : Type 1} → statement M
 bad-edge-spec =

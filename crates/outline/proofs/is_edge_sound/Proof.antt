@@ -60,7 +60,7 @@ returns c =
     let o = s .args .t1 in
     let told = sym (c .before .is-left .ensures) ∙ not-true _ (c .if1 .taken) in
     sym (every-false (left (cornersHeld o) (s .args .i)) (o .count) (at .before .loop .k) (at .loop-test .taken)
-    (held-left o (s .pre .0) (s .args .i) (at .before .loop .k) (s .pre .1) (at .loop-test .taken) ∙ rw (← c .before .before .before .before .before .before .before .next .ensures .0) told))
+    (held-left o (s .pre .0 .kept) (s .args .i) (at .before .loop .k) (s .pre .1) (at .loop-test .taken) ∙ rw (← c .before .before .before .before .before .before .before .next .ensures .0) told))
 
 add-k : tie.Need-add-k Inv-loop μ-loop
 add-k c = search needs
@@ -76,7 +76,7 @@ loop-again c =
     let told = sym (c .before .is-left .ensures) ∙ not-false _ (c .if1 .left) in (
       omega arith,
       below-more _ _ (at .before .loop .inv .1)
-          (held-left o (s .pre .0) (s .args .i) (at .before .loop .k) (s .pre .1) (at .loop-test .taken) ∙ rw (← c .before .before .before .before .before .before .before .next .ensures .0) told),
+          (held-left o (s .pre .0 .kept) (s .args .i) (at .before .loop .k) (s .pre .1) (at .loop-test .taken) ∙ rw (← c .before .before .before .before .before .before .before .next .ensures .0) told),
     )
 
 returns-2 : tie.Need-returns-2 Inv-loop μ-loop

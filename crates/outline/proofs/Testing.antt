@@ -1,0 +1,111 @@
+-- The outline test by its cases: each answer from the outcome of the three tests; and what an outline made from a list is.
+use mathlib.Core.Path.{_≡_, refl, sym, _∙_, ap, subst}
+use mathlib.Core.Bool.{Bool, true, false, not, _&&_, and-eq-true-iff}
+use mathlib.Core.List.{List, _++_}
+use Prim.Native.Nat.{ℕ, zero, suc, _+_, _-_, _/_, _%_, _≤_, _<_}
+use native.Mathlib.Decide.{decLt}
+use native.Mathlib.Omega.{arith}
+use lib.Dec.{eqb, leb}
+use lib.IntN.{ℤ}
+use lib.ListN.{length, replicate, length-append, length-replicate, List·getD-append}
+use lib.Seq.{take-append-seam, getD-append-add}
+use borrow.Author.Tests.{eq-eqb, ne-eqb, eqb-true, le-leb}
+use Rattle.whole.specs.Lowest.{every}
+use Rattle.whole.proofs.Indices.{lowest-bound}
+use Rattle.plane.specs.Point.{origin}
+use Rattle.plane.specs.Near.{Near}
+use Rattle.plane.specs.Edges.{corner}
+use Rattle.plane.specs.declared.Corner.{Corner}
+use Rattle.outline.specs.Sound.{left, badEdge, isSound}
+use Rattle.outline.specs.Coordinates.{cornersOf, paired}
+use Rattle.outline.specs.Refusal.{firstThatApplies, counted, placed, refusalOfOutline}
+use Rattle.outline.specs.Held.{cornersHeld, held, Kept, Held}
+use Rattle.outline.specs.Tested.{tested, refusedAs}
+use Rattle.outline.specs.declared.Outline.{Outline}
+use Rattle.outline.specs.declared.Tested.{Tested}
+use Rattle.outline.proofs.Ranges.{counted-yes, placed-yes}
+use Rattle.outline.proofs.Pairs.{corners-length}
+
+-- a list whose count is right
+abbrev pub wellCounted : List ℤ → Bool
+wellCounted xs = paired xs && counted (length (cornersOf xs))
+
+module _ (xs : List ℤ) where
+  pub wellCounted-is : (eqb (length xs % 2) 0 && counted (length xs / 2)) ≡ wellCounted xs
+  wellCounted-is = ap (λ n. eqb (length xs % 2) 0 && counted n) (sym (corners-length xs))
+
+  pub wellCounted-yes : wellCounted xs ≡ true → (length xs % 2 ≡ 0) × (3 ≤ length (cornersOf xs)) × (length (cornersOf xs) ≤ 16)
+  wellCounted-yes e =
+      let k = and-eq-true-iff (paired xs) (counted (length (cornersOf xs))) .0 e in
+      let n = counted-yes (length (cornersOf xs)) (k .1) in
+      (eqb-true (length xs % 2) 0 (k .0), n .0, n .1)
+
+  pub tested-count : wellCounted xs ≡ false → tested xs ≡ refusedAs 4
+  unfolding tested refusalOfOutline firstThatApplies
+  tested-count e = simp e
+
+  pub tested-place : wellCounted xs ≡ true → placed (cornersOf xs) ≡ false → tested xs ≡ refusedAs 7
+  unfolding tested refusalOfOutline firstThatApplies
+  tested-place e p = simp (e, p)
+
+  pub tested-unsound : wellCounted xs ≡ true → placed (cornersOf xs) ≡ true → isSound (cornersOf xs) ≡ false → tested xs ≡ refusedAs 8
+  unfolding tested refusalOfOutline firstThatApplies
+  tested-unsound e p q = simp (e, p, q)
+
+  pub tested-sound : wellCounted xs ≡ true → placed (cornersOf xs) ≡ true → isSound (cornersOf xs) ≡ true → tested xs ≡ record { refusal = 0; outline = held (cornersOf xs) }
+  unfolding tested refusalOfOutline firstThatApplies
+  tested-sound e p q = simp (e, p, q)
+
+-- ---- soundness, from the lowest bad edge
+module _ (A : List Corner) where
+  pub sound-no-bad : 3 ≤ length A → length A ≤ badEdge A → isSound A ≡ true
+  unfolding isSound badEdge
+  sound-no-bad h k = and-eq-true-iff (leb 3 (length A)) (eqb (badEdge A) (length A)) .1 (le-leb 3 (length A) h, eq-eqb (badEdge A) (length A) (omega (arith, lowest-bound (λ i. not (every (left A i) (length A))) (length A))))
+
+  pub sound-bad : badEdge A < length A → isSound A ≡ false
+  unfolding isSound
+  sound-bad k = go (leb 3 (length A)) (ne-eqb (badEdge A) (length A) (λ e. omega arith))
+    where
+      go : (s : Bool) → eqb (badEdge A) (length A) ≡ false → (s && eqb (badEdge A) (length A)) ≡ false
+      go true e = e
+      go false e = refl
+
+-- ---- the outline that holds A
+near-origin : Near 10000 origin
+near-origin = record { near-x = record { le = omega arith }; near-y = record { le = omega arith } }
+
+zeros-at : (k i : ℕ) → corner (replicate k origin) i ≡ origin
+zeros-at zero i = refl
+zeros-at (suc k) zero = refl
+zeros-at (suc k) (suc i) = zeros-at k i
+
+module _ (A : List Corner) (h : length A ≤ 16) where
+  pub held-corners : cornersHeld (held A) ≡ A
+  held-corners = take-append-seam A (replicate (16 - length A) origin)
+
+  pub held-kept : Kept (held A)
+  held-kept = record { places = omega (arith, length-append A (replicate (16 - length A) origin), length-replicate (16 - length A) origin); count = h }
+
+  -- the places past the last corner are zero, so near too
+  pub held-held : placed A ≡ true → Held (held A)
+  held-held p = record { kept = held-kept; near = λ i. near i (decLt i (length A)) }
+    where
+      near : (i : ℕ) → Dec (i < length A) → Near 10000 (corner (held A .corners) i)
+      near i (yes k) = subst (Near 10000) (sym (List·getD-append A (replicate (16 - length A) origin) origin i k)) (placed-yes A p i k)
+      near i (no k) =
+          let past : length A + (i - length A) ≡ i = omega arith in
+          subst (Near 10000) (sym (ap (corner (held A .corners)) (sym past) ∙ getD-append-add A (replicate (16 - length A) origin) (i - length A) origin ∙ zeros-at (16 - length A) (i - length A))) near-origin
+
+-- ---- an outline that was made from the list xs
+module _ (xs : List ℤ) (w : wellCounted xs ≡ true) (o : Outline) (is : o ≡ held (cornersOf xs)) where
+  few : length (cornersOf xs) ≤ 16
+  few = wellCounted-yes xs w .2
+
+  pub made-kept : Kept o
+  made-kept = subst Kept (sym is) (held-kept (cornersOf xs) few)
+
+  pub made-corners : cornersHeld o ≡ cornersOf xs
+  made-corners = ap cornersHeld is ∙ held-corners (cornersOf xs) few
+
+  pub made-held : placed (cornersOf xs) ≡ true → Held o
+  made-held p = subst Held (sym is) (held-held (cornersOf xs) few p)
