@@ -1,2 +1,6 @@
 pub mod Accepted
+pub mod Windows
+pub mod SpanList
+pub mod Firsts
+pub mod Emptied
 pub mod Worked

@@ -1,6 +1,7 @@
 pub mod Move
 pub mod Sides
 pub mod Span
+pub mod InSpan
 pub mod Showing
 pub mod Verdict
 pub mod Refusal

@@ -4,10 +4,10 @@
 --   showing m t          the showing of the move m at the time t
 use mathlib.Core.Bool.{Bool, cond}
 use mathlib.Core.List.{List}
-use Prim.Native.Nat.{ℕ}
+use Prim.Native.Nat.{ℕ, _*_, _/_, _%_}
 use lib.Dec.{ltb}
 use lib.ListN.{length}
-use Rattle.whole.specs.Lowest.{lowest, some}
+use Rattle.whole.specs.Lowest.{lowest}
 use Rattle.whole.specs.declared.Time.{Time}
 use Rattle.plane.specs.Motion.{movedAll}
 use Rattle.plane.specs.Edges.{corner, next}
@@ -23,19 +23,15 @@ cornerInside P Q = lowest (λ i. inside Q (corner P i)) (length P)
 unfoldable pub edgesMeet : List Corner → List Corner → ℕ → ℕ → Bool
 edgesMeet P Q i j = meet (corner P i) (corner P (next (length P) i)) (corner Q j) (corner Q (next (length Q) j))
 
--- the lowest edge of P that shares a point with some edge of Q
-unfoldable pub meetingEdge : List Corner → List Corner → ℕ
-meetingEdge P Q = lowest (λ i. some (edgesMeet P Q i) (length Q)) (length P)
-
--- the lowest edge of Q that shares a point with edge i of P
-unfoldable pub edgeMet : List Corner → List Corner → ℕ → ℕ
-edgeMet P Q i = lowest (edgesMeet P Q i) (length Q)
+-- the lowest pair of edges that share a point, pairs being numbered by the edge of P, then by the edge of Q
+unfoldable pub meetingPair : List Corner → List Corner → ℕ
+meetingPair P Q = lowest (λ k. edgesMeet P Q (k / length Q) (k % length Q)) (length P * length Q)
 
 -- of the corners of A and of B at one time
 unfoldable pub showingOf : List Corner → List Corner → Showing
 showingOf A B =
     cond (ltb (cornerInside A B) (length A)) (CornerOfA (cornerInside A B))
-    (cond (ltb (cornerInside B A) (length B)) (CornerOfB (cornerInside B A)) (Edges (meetingEdge A B) (edgeMet A B (meetingEdge A B))))
+    (cond (ltb (cornerInside B A) (length B)) (CornerOfB (cornerInside B A)) (Edges (meetingPair A B / length B) (meetingPair A B % length B)))
 
 unfoldable pub showing : Move → Time → Showing
 showing m t = showingOf (movedAll (t .n) (t .d) (m .va) (m .a)) (movedAll (t .n) (t .d) (m .vb) (m .b))
