@@ -96,16 +96,33 @@ module _ (A : List Corner) (h : length A ≤ 16) where
           let past : length A + (i - length A) ≡ i = omega arith in
           subst (Near 10000) (sym (ap (corner (held A .corners)) (sym past) ∙ getD-append-add A (replicate (16 - length A) origin) (i - length A) origin ∙ zeros-at (16 - length A) (i - length A))) near-origin
 
+-- ---- an outline whose unused places are zero
+module _ (o : Outline) (is : o ≡ held (cornersHeld o)) (h : o .count ≤ 16) where
+  few : length (cornersHeld o) ≤ 16
+  few = omega (arith, ap (λ p. p .count) is)
+
+  pub padded-kept : Kept o
+  padded-kept = subst Kept (sym is) (held-kept (cornersHeld o) few)
+
+  pub padded-held : placed (cornersHeld o) ≡ true → Held o
+  padded-held p = subst Held (sym is) (held-held (cornersHeld o) few p)
+
 -- ---- an outline that was made from the list xs
 module _ (xs : List ℤ) (w : wellCounted xs ≡ true) (o : Outline) (is : o ≡ held (cornersOf xs)) where
-  few : length (cornersOf xs) ≤ 16
-  few = wellCounted-yes xs w .2
-
-  pub made-kept : Kept o
-  made-kept = subst Kept (sym is) (held-kept (cornersOf xs) few)
+  small : length (cornersOf xs) ≤ 16
+  small = wellCounted-yes xs w .2
 
   pub made-corners : cornersHeld o ≡ cornersOf xs
-  made-corners = ap cornersHeld is ∙ held-corners (cornersOf xs) few
+  made-corners = ap cornersHeld is ∙ held-corners (cornersOf xs) small
+
+  pub made-padded : o ≡ held (cornersHeld o)
+  made-padded = is ∙ ap held (sym made-corners)
+
+  pub made-count : o .count ≤ 16
+  made-count = omega (arith, ap (λ p. p .count) is, small)
+
+  pub made-kept : Kept o
+  made-kept = padded-kept o made-padded made-count
 
   pub made-held : placed (cornersOf xs) ≡ true → Held o
-  made-held p = subst Held (sym is) (held-held (cornersOf xs) few p)
+  made-held p = padded-held o made-padded made-count (ap placed made-corners ∙ p)

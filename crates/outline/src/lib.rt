@@ -7,9 +7,9 @@ ghost use lib.IntN.{pos};
 ghost use lib.ListN.{length};
 ghost use lib.Signed.{ltZ};
 ghost use Rattle.whole.specs.Lowest.{every};
-ghost use Rattle.plane.specs.Point.{step, cross};
+ghost use Rattle.plane.specs.Point.{step, cross, side};
 ghost use Rattle.plane.specs.Near.{Near};
-ghost use Rattle.plane.specs.Edges.{next};
+ghost use Rattle.plane.specs.Edges.{next, edge};
 ghost use Rattle.outline.specs.Sound.{left, badEdge};
 ghost use Rattle.outline.specs.Held.{Kept, Held, cornersHeld, held};
 ghost use Rattle.outline.specs.Coordinates.{cornersOf};
@@ -102,6 +102,21 @@ pub fn bad_edge(o: Outline) -> usize
         i += 1;
     }
     n
+}
+
+// The direction of the side that edge i gives.
+pub fn side(o: Outline, i: usize) -> Corner
+    requires { ⌜ Held o × (i < o .count) ⌝ }
+    ensures { λ r. ⌜ r ≡ side (edge (cornersHeld o) i) ⌝ }
+{
+    let n = o.count;
+    let j = next(n, i);
+    let p = o.corners[i];
+    let q = o.corners[j];
+    Corner {
+        x: q.y - p.y,
+        y: p.x - q.x,
+    }
 }
 
 // The interval of an outline in the direction d, in one pass over its corners.

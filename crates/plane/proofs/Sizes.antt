@@ -3,6 +3,7 @@ use mathlib.Core.Path.{_∙_, ap, subst, sym}
 use mathlib.Core.Bool.{Bool}
 use mathlib.Core.List.{List, [], _∷_, map}
 use Prim.Native.Nat.{ℕ, _≤_, _<_}
+use native.Mathlib.Nat.{le-trans}
 use native.Mathlib.Omega.{arith}
 use lib.IntN.{ℤ, pos}
 use lib.ListN.{length}
@@ -16,6 +17,9 @@ use Rattle.plane.specs.Near.{Near}
 use Rattle.plane.specs.Edges.{corner}
 use Rattle.plane.specs.Interval.{low, high}
 use Rattle.plane.specs.declared.Corner.{Corner}
+
+pub near-more : (k l : ℕ) (p : Corner) → k ≤ l → Near k p → Near l p
+near-more k l p h n = record { near-x = record { le = le-trans (n .near-x .le) h }; near-y = record { le = le-trans (n .near-y .le) h } }
 
 pub dot-within : (D p : Corner) → Near 20000 D → Near 10000 p → Within 400000000 (dot D p)
 unfolding dot

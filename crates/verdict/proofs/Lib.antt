@@ -1,4 +1,5 @@
 pub mod Accepted
+pub mod Refusing
 pub mod Windows
 pub mod SpanList
 pub mod Firsts

@@ -1,5 +1,19 @@
 // The verdict on a move of two outlines, with its evidence.
+
+pub mod refusals; // why a move is turned away
+
+use outline::Outline;
+use plane::Corner;
 use whole::Time;
+
+// A move as it is held: both outlines with their velocities, and the time limit.
+pub struct HeldMove {
+    pub a: Outline,
+    pub b: Outline,
+    pub va: Corner,
+    pub vb: Corner,
+    pub limit: i64,
+}
 
 // The times from 0 to the limit at which a side's two intervals share a value: none, or those from begin to end.
 pub enum Span {
@@ -34,4 +48,10 @@ pub enum Answer {
     ClearByTwo(usize, usize),
     Contact(Evidence),
     Refused(u8),
+}
+
+// The greatest begin, or the least end, so far, and the lowest side that has it.
+pub struct Lead {
+    pub at: Time,
+    pub side: usize,
 }

@@ -11,6 +11,8 @@ use borrow.Author.Needs.{needs, sfits-of}
 use Rattle.whole.specs.Best.{betterOf}
 use Rattle.plane.specs.Point.{dot}
 use Rattle.plane.specs.Edges.{corner}
+use lib.Dec.{lit≤}
+use Rattle.plane.proofs.Sizes.{near-more}
 use Rattle.plane.proofs.Prefixes.{low-first, high-first, low-step, high-step}
 use Rattle.plane.specs.Interval.{low as leastOf, high as greatestOf}
 use Rattle.outline.proofs.project.Statement.{statement}
@@ -32,7 +34,7 @@ element-copy-out-first : tie.Need-element-copy-out-first Inv-loop μ-loop
 element-copy-out-first c = search needs
 
 dot-requires : tie.Need-dot-requires Inv-loop μ-loop
-dot-requires c κs = (c .before .pre .2, c .before .pre .0 .near 0)
+dot-requires c κs = (c .before .pre .2, near-more 10000 90000000000000 _ (lit≤ tt) (c .before .pre .0 .near 0))
 
 loop-holds : tie.Need-loop-holds Inv-loop μ-loop
 loop-holds c =
@@ -48,7 +50,7 @@ element-copy-out-p : tie.Need-element-copy-out-p Inv-loop μ-loop
 element-copy-out-p c = search needs
 
 dot-requires-2 : tie.Need-dot-requires-2 Inv-loop μ-loop
-dot-requires-2 c κs = let s = c .before .before .before .before .before in (s .pre .2, s .pre .0 .near (c .before .before .loop .k))
+dot-requires-2 c κs = let s = c .before .before .before .before .before in (s .pre .2, near-more 10000 90000000000000 _ (lit≤ tt) (s .pre .0 .near (c .before .before .loop .k)))
 
 lesser-requires : tie.Need-lesser-requires Inv-loop μ-loop
 lesser-requires c κs = search needs

@@ -1,4 +1,4 @@
--- Each product is at most 20,000 times 10,000, so the sum fits; the value is the dot product by the ring laws.
+-- Each product is at most 20,000 times 90,000,000,000,000, so the sum fits; the value is the dot product by the ring laws.
 use mathlib.Core.List.{[], _∷_}
 use Rattle.whole.proofs.Bound.{bounds, fits}
 use Rattle.whole.proofs.Ring.{reps, by-ring}

@@ -1,0 +1,59 @@
+-- The refusal of a move by its cases, once both counts are right; and what an accepted move has when it is held.
+use mathlib.Core.Path.{_≡_, sym, ap}
+use mathlib.Core.Bool.{true, false, not, _&&_, and-eq-true-iff}
+use mathlib.Core.List.{[], _∷_}
+use native.Mathlib.Omega.{arith}
+use lib.IntN.{ℤ, pos}
+use lib.ListN.{length}
+use lib.Signed.{_≤ℤ_, leZ}
+use Rattle.whole.proofs.Linear.{ints}
+use Rattle.outline.specs.Sound.{isSound}
+use Rattle.outline.specs.Refusal.{firstThatApplies, counted, bothInRange, placed}
+use Rattle.outline.proofs.Ranges.{counted-yes, bothInRange-yes}
+use Rattle.outline.proofs.Testing.{padded-held}
+use Rattle.verdict.specs.Move.{Move}
+use Rattle.verdict.specs.HeldMove.{moveHeld, heldMove, Fit}
+use Rattle.verdict.specs.Refusal.{limited, refusal}
+use Rattle.verdict.specs.declared.HeldMove.{HeldMove}
+use Rattle.verdict.proofs.Accepted.{accepted-yes}
+
+module _ (m : Move) (ca : counted (length (m .a)) ≡ true) (cb : counted (length (m .b)) ≡ true) where
+  pub refusal-limit : limited (m .limit) ≡ false → 5 ≡ refusal m
+  unfolding refusal firstThatApplies
+  refusal-limit l = sym (simp (ca, cb, l))
+
+  pub refusal-speed : limited (m .limit) ≡ true → (bothInRange (m .va) && bothInRange (m .vb)) ≡ false → 6 ≡ refusal m
+  unfolding refusal firstThatApplies
+  refusal-speed l v = sym (simp (ca, cb, l, v))
+
+  pub refusal-place : limited (m .limit) ≡ true → (bothInRange (m .va) && bothInRange (m .vb)) ≡ true → (placed (m .a) && placed (m .b)) ≡ false → 7 ≡ refusal m
+  unfolding refusal firstThatApplies
+  refusal-place l v p = sym (simp (ca, cb, l, v, p))
+
+  pub refusal-sound : limited (m .limit) ≡ true → (bothInRange (m .va) && bothInRange (m .vb)) ≡ true → (placed (m .a) && placed (m .b)) ≡ true
+      → firstThatApplies ((8, not (isSound (m .a))) ∷ (9, not (isSound (m .b))) ∷ []) ≡ refusal m
+  unfolding refusal firstThatApplies
+  refusal-sound l v p = sym (simp (ca, cb, l, v, p))
+
+-- an accepted move, held, is fit to be worked
+pub fit-yes : (h : HeldMove) → h ≡ heldMove (moveHeld h) → refusal (moveHeld h) ≡ 0 → Fit h
+fit-yes h is e =
+    let r = accepted-yes (moveHeld h) e in
+    let na = counted-yes (length (moveHeld h .a)) (r .counted-a) in
+    let nb = counted-yes (length (moveHeld h .b)) (r .counted-b) in
+    let ka = ap (λ x. x .a .count) is in
+    let kb = ap (λ x. x .b .count) is in
+    let t = and-eq-true-iff (leZ (pos 0) (h .limit)) (leZ (h .limit) (pos 10000)) .0 (r .limited-T) in
+    record {
+      held-a = padded-held (h .a) (ap (λ x. x .a) is) (omega (arith, na .1)) (r .placed-a);
+      held-b = padded-held (h .b) (ap (λ x. x .b) is) (omega (arith, nb .1)) (r .placed-b);
+      some-a = omega (arith, na .0);
+      some-b = omega (arith, nb .0);
+      near-va = bothInRange-yes (h .va) (r .inRange-va);
+      near-vb = bothInRange-yes (h .vb) (r .inRange-vb);
+      from-zero = test-le (pos 0) (h .limit) (t .0);
+      to-limit = test-le (h .limit) (pos 10000) (t .1);
+    }
+  where
+    test-le : (x y : ℤ) → leZ x y ≡ true → x ≤ℤ y
+    test-le x y e = omega ints

@@ -1,0 +1,30 @@
+-- The first test decides, or leaves the answer to the second.
+use mathlib.Core.Path.{sym, _∙_}
+use borrow.Author.Tests.{not-true, not-false}
+use Rattle.whole.proofs.Flags.{and-false, and-true}
+use Rattle.outline.specs.Refusal.{bothInRange}
+use borrow.Author.Needs.{needs}
+use Rattle.verdict.proofs.refusals.are_near.Statement.{statement}
+use Rattle.verdict.proofs.refusals.are_near.Tie as tie
+use Rattle.verdict.proofs.refusals.are_near.Reads as reads
+use Rattle.verdict.proofs.refusals.are_near.Lts as lts
+use Rattle.outline.proofs.is_near.Reads as is-near-reads
+
+is-near-requires : tie.Need-is-near-requires
+is-near-requires c κs = search needs
+
+returns : tie.Need-returns
+returns c =
+    let a = c .before .before .args in
+    and-false (bothInRange (a .p)) (bothInRange (a .q)) (sym (c .before .is-near .ensures) ∙ not-true _ (c .if1 .taken))
+
+is-near-requires-2 : tie.Need-is-near-requires-2
+is-near-requires-2 c κs = search needs
+
+returns-2 : tie.Need-returns-2
+returns-2 c =
+    let a = c .before .before .before .args in
+    c .is-near2 .ensures ∙ and-true (bothInRange (a .p)) (bothInRange (a .q)) (sym (c .before .before .is-near .ensures) ∙ not-false _ (c .before .if1 .left))
+
+pub are-near-spec : {M : Type 1} → statement M
+are-near-spec = tie.close (tie.spec is-near-requires returns is-near-requires-2 returns-2)
