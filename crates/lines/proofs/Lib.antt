@@ -1,3 +1,4 @@
+pub mod LineParts
 pub mod Joined
 pub mod Chunks
 pub mod Printed

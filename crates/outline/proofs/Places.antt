@@ -1,28 +1,21 @@
 -- What an outline held in sixteen places says of its corners: those below the count stand at the same number in the places.
 use mathlib.Core.Path.{_≡_, sym, _∙_, ap, ap₂}
-use mathlib.Core.Bool.{Bool, true, false, not, cond, _||_}
-use Prim.Native.Nat.{ℕ, _+_, _≤_, _<_}
+use mathlib.Core.Bool.{not, _||_}
+use Prim.Native.Nat.{ℕ, _<_}
 use native.Mathlib.Omega.{arith}
-use lib.Dec.{ltb, eqb}
+use lib.Dec.{eqb}
 use lib.IntN.{pos}
 use lib.ListN.{length, take}
 use lib.Signed.{ltZ}
 use lib.Seq.{length-take-le, getD-take}
-use borrow.Author.Tests.{ltb-true}
 use Rattle.whole.specs.Lowest.{lowest, every}
 use Rattle.plane.specs.Point.{origin, step, cross}
 use Rattle.plane.specs.Edges.{corner, next, edge}
+use Rattle.plane.proofs.Wide.{next-below}
 use Rattle.outline.specs.Sound.{left, badEdge}
 use Rattle.outline.specs.Refusal.{bothInRange, placed}
 use Rattle.outline.specs.Held.{Kept, cornersHeld}
 use Rattle.outline.specs.declared.Outline.{Outline}
-
-pub next-below : (n i : ℕ) → i < n → next n i < n
-next-below n i h = go (ltb (i + 1) n) (ltb-true (i + 1) n)
-  where
-    go : (t : Bool) → (t ≡ true → i + 1 < n) → cond t (i + 1) 0 < n
-    go true f = f (λ _. true)
-    go false f = omega arith
 
 module _ (o : Outline) (h : Kept o) where
   pub held-length : length (cornersHeld o) ≡ o .count

@@ -40,6 +40,14 @@ module _ (xs : List ℤ) where
       let n = counted-yes (length (cornersOf xs)) (k .1) in
       (eqb-true (length xs % 2) 0 (k .0), n .0, n .1)
 
+  -- what the function that makes an outline asks
+  pub wellCounted-short : wellCounted xs ≡ true → (length xs % 2 ≡ 0) × (length xs ≤ 32)
+  wellCounted-short e =
+      let k = wellCounted-yes e in
+      let even = k .0 in
+      let few = k .2 in
+      (even, omega (arith, corners-length xs))
+
   pub tested-count : wellCounted xs ≡ false → tested xs ≡ refusedAs 4
   unfolding tested refusalOfOutline firstThatApplies
   tested-count e = simp e

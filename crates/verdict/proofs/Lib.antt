@@ -1,7 +1,12 @@
 pub mod Accepted
 pub mod Refusing
+pub mod Listed
 pub mod Windows
 pub mod SpanList
 pub mod Firsts
 pub mod Emptied
+pub mod Standing
+pub mod FitSpans
+pub mod Leading
+pub mod ShowingLaws
 pub mod Worked

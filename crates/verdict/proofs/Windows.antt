@@ -31,7 +31,7 @@ record Value (p q k : ℕ) (t : Time) : Type 0 where
   n-bound : t .n ≤ k
   d-bound : t .d ≤ q
 
-whole-reduced : (T : ℕ) → Reduced (time T 1)
+pub whole-reduced : (T : ℕ) → Reduced (time T 1)
 whole-reduced T = record { proper = omega arith; coprime = eq-one-of-dvd-one (gcd-divides-right T 1) }
 
 whole-value : (p q k T : ℕ) → 1 ≤ q → T * q ≡ p → T ≤ k → Value p q k (time T 1)

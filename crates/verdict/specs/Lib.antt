@@ -9,4 +9,5 @@ pub mod Verdict
 pub mod Lead
 pub mod Refusal
 pub mod Answer
+pub mod Readings
 pub mod Cases

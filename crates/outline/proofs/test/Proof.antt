@@ -2,13 +2,11 @@
 use mathlib.Core.Path.{_≡_, sym, _∙_, ap, subst₂}
 use mathlib.Core.Bool.{true}
 use Prim.Native.Nat.{_<_, _≤_}
-use native.Mathlib.Omega.{arith}
 use borrow.Author.Tests.{not-true, not-false}
 use borrow.Author.Needs.{needs}
 use Rattle.outline.specs.Refusal.{placed}
 use Rattle.outline.specs.Sound.{badEdge}
-use Rattle.outline.proofs.Pairs.{corners-length}
-use Rattle.outline.proofs.Testing.{wellCounted, wellCounted-is, wellCounted-yes, tested-count, tested-place, tested-unsound, tested-sound, sound-no-bad, sound-bad, made-kept, made-corners, made-held}
+use Rattle.outline.proofs.Testing.{wellCounted, wellCounted-is, wellCounted-yes, wellCounted-short, tested-count, tested-place, tested-unsound, tested-sound, sound-no-bad, sound-bad, made-kept, made-corners, made-held}
 use Rattle.outline.proofs.test.Statement.{statement}
 use Rattle.outline.proofs.test.Tie as tie
 use Rattle.outline.proofs.test.Reads as reads
@@ -35,11 +33,7 @@ returns c =
     c .refused .ensures ∙ sym (tested-count (s .before .args .xs .now) (sym (s .is-counted .ensures ∙ wellCounted-is (s .before .args .xs .now)) ∙ not-true _ (c .before .if1 .taken)))
 
 outline-of-requires : tie.Need-outline-of-requires
-outline-of-requires c κs =
-    let xs = c .before .before .args .xs .now in
-    let k = wellCounted-yes xs (right-count c) in
-    let h = k .2 in
-    (k .0, omega (arith, corners-length xs))
+outline-of-requires c κs = wellCounted-short (c .before .before .args .xs .now) (right-count c)
 
 is-placed-requires : tie.Need-is-placed-requires
 is-placed-requires c κs =

@@ -1,0 +1,97 @@
+-- Wide outlines: no corner lies to the right of an edge, and each edge has a corner to its left.
+-- Every corner is the end of an edge, which is all that is used of the order of the corners.
+-- Assumes nothing.
+use mathlib.Core.Path.{_≡_, refl, sym, _∙_, ap, subst}
+use mathlib.Core.Bool.{Bool, true, false, cond}
+use mathlib.Core.Logic.{⊎-elim}
+use mathlib.Core.List.{List, [], _∷_}
+use Prim.Native.Nat.{ℕ, zero, suc, _+_, _-_, _≤_, _<_}
+use native.Mathlib.Omega.{arith}
+use lib.Dec.{ltb}
+use borrow.Author.Tests.{lt-ltb, le-ltb, ltb-true}
+use lib.IntN.{pos}
+use lib.ListN.{length}
+use lib.Signed.{_≤ℤ_, _<ℤ_, <ℤ-irrefl}
+use Rattle.whole.specs.Member.{Mem}
+use Rattle.whole.proofs.Ring.{reps, by-ring}
+use Rattle.whole.proofs.Members.{mem-at, at-mem}
+use Rattle.plane.specs.Point.{origin, step, cross, dot, side}
+use Rattle.plane.specs.Edges.{corner, next, edge}
+use Rattle.plane.specs.declared.Corner.{Corner}
+use Rattle.plane.proofs.Products.{coords, side-dot}
+use Rattle.plane.proofs.Extreme.{dot-pos}
+
+pub record Wide (A : List Corner) : Type 0 where
+  pub some : 1 ≤ length A
+  pub left : (i k : ℕ) → i < length A → k < length A → pos 0 ≤ℤ cross (edge A i) (step (corner A i) (corner A k))
+  pub spread : (i : ℕ) → i < length A → (k : ℕ) × (k < length A) × (pos 0 <ℤ cross (edge A i) (step (corner A i) (corner A k)))
+
+-- the edge i ends at a; what is known of it, for members and from its end
+pub record Into (A : List Corner) (a : Corner) : Type 0 where
+  pub i : ℕ
+  pub below : i < length A
+  pub is : edge A i ≡ step (corner A i) a
+  pub member : Mem (corner A i) A
+  pub left : (c : Corner) → Mem c A → pos 0 ≤ℤ cross (step (corner A i) a) (step a c)
+  pub spread : (c : Corner) × Mem c A × (pos 0 <ℤ cross (step (corner A i) a) (step a c))
+
+-- ---- the number after and the number before
+pub next-inner : (n i : ℕ) → i + 1 < n → next n i ≡ i + 1
+next-inner n i h = rw (lt-ltb (i + 1) n h)
+
+pub next-last : (n i : ℕ) → n ≤ i + 1 → next n i ≡ 0
+next-last n i h = rw (le-ltb (i + 1) n h)
+
+pub next-below : (n i : ℕ) → i < n → next n i < n
+next-below n i h = go (ltb (i + 1) n) refl
+  where
+    go : (t : Bool) → ltb (i + 1) n ≡ t → cond t (i + 1) 0 < n
+    go true e = omega (arith, ltb-true (i + 1) n e)
+    go false e = omega arith
+
+pub next-onto : (n j : ℕ) → j < n → (i : ℕ) × (i < n) × (next n i ≡ j)
+next-onto n zero h = (n - 1, omega arith, next-last n (n - 1) (omega arith))
+next-onto n (suc j) h = (j, omega arith, omega (arith, next-inner n j (omega arith)))
+
+-- ---- every corner is the end of an edge
+pub from-end : (p a c : Corner) → cross (step p a) (step p c) ≡ cross (step p a) (step a c)
+unfolding cross
+from-end p a c = by-ring (coords (p ∷ a ∷ c ∷ [])) (search reps depth 12) (search reps depth 12) tt
+
+pub wide-left : (A : List Corner) → Wide A → (i : ℕ) → i < length A → (c : Corner) → Mem c A → pos 0 ≤ℤ cross (edge A i) (step (corner A i) c)
+wide-left A w i h c m =
+    let k = at-mem c A origin m in
+    subst (λ c. pos 0 ≤ℤ cross (edge A i) (step (corner A i) c)) (sym (k .2)) (w .left i (k .0) h (k .1))
+
+pub edge-into : (A : List Corner) → Wide A → (a : Corner) → Mem a A → Into A a
+edge-into A w a m =
+    let j = at-mem a A origin m in
+    let i = next-onto (length A) (j .0) (j .1) in
+    let p = corner A (i .0) in
+    let e : edge A (i .0) ≡ step p a = ap (λ k. step p (corner A k)) (i .2) ∙ ap (step p) (sym (j .2)) in
+    let s = w .spread (i .0) (i .1) in
+    record {
+      i = i .0;
+      below = i .1;
+      is = e;
+      member = mem-at A (i .0) origin (i .1);
+      left = λ c n. rw (← from-end p a c, ← e) (wide-left A w (i .0) (i .1) c n);
+      spread = (corner A (s .0), mem-at A (s .0) origin (s .1), rw (← from-end p a (corner A (s .0)), ← e) (s .2));
+    }
+
+-- ---- no edge is a point
+origin-cross : (u : Corner) → cross origin u ≡ pos 0
+unfolding cross
+origin-cross u = by-ring (coords (u ∷ [])) (search reps depth 12) (search reps depth 12) tt
+
+pub edge-long : (A : List Corner) → Wide A → (i : ℕ) → i < length A → pos 0 <ℤ dot (edge A i) (edge A i)
+edge-long A w i h = ⊎-elim (λ z. absurd (no z)) (λ l. l) (dot-pos (edge A i))
+  where
+    no : edge A i ≡ origin → ⊥
+    no z =
+        let c = w .spread i h in
+        let u = step (corner A i) (corner A (c .0)) in
+        <ℤ-irrefl (subst (λ k. pos 0 <ℤ k) (ap (λ e. cross e u) z ∙ origin-cross u) (c .2))
+
+pub side-long : (A : List Corner) → Wide A → (i : ℕ) → i < length A → pos 0 <ℤ dot (side (edge A i)) (side (edge A i))
+side-long A w i h = rw (side-dot (edge A i) (edge A i)) (edge-long A w i h)

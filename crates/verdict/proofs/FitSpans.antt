@@ -1,0 +1,106 @@
+-- The sides and the spans of a move that is fit: a side reaches at most twice as far as corners do, so projections and speeds are small, and each span is well made and has short times.
+use mathlib.Core.Path.{_≡_, refl, sym, subst, ap₂}
+use mathlib.Core.Bool.{Bool, true, false, cond}
+use mathlib.Core.List.{List, [], _∷_, map}
+use Prim.Native.Nat.{ℕ, _+_, _-_, _≤_, _<_}
+use native.Mathlib.Omega.{arith}
+use lib.Dec.{ltb}
+use lib.IntN.{pos, natAbs, _-ℤ_}
+use lib.ListN.{length}
+use lib.Signed.{_≤ℤ_}
+use borrow.Author.Tests.{ltb-true, ltb-false}
+use Rattle.whole.specs.Within.{Within}
+use Rattle.whole.proofs.Bound.{bounds, within}
+use Rattle.whole.proofs.Parts.{P-neg, N-neg}
+use Rattle.whole.proofs.Linear.{ints}
+use Rattle.whole.proofs.Order.{add-le}
+use Rattle.whole.proofs.Members.{best-ltZ-bound, best-gtZ-bound, mem-at}
+use Rattle.plane.specs.Point.{step, side, dot}
+use Rattle.plane.specs.Near.{Near}
+use Rattle.plane.specs.Edges.{corner, next, edge}
+use Rattle.plane.specs.Interval.{low, high}
+use Rattle.plane.specs.declared.Corner.{Corner}
+use Rattle.plane.proofs.Sizes.{dot-within, low-within, high-within}
+use Rattle.outline.specs.Held.{Held, cornersHeld}
+use Rattle.outline.specs.declared.Outline.{Outline}
+use Rattle.outline.proofs.Places.{held-length, held-corner, held-edge}
+use Rattle.verdict.specs.HeldMove.{Fit, moveHeld}
+use Rattle.verdict.specs.Sides.{sideCount, sideOf}
+use Rattle.verdict.specs.Span.{span}
+use Rattle.verdict.specs.declared.HeldMove.{HeldMove}
+use Rattle.verdict.proofs.Windows.{Good, window-good}
+
+-- ---- an outline that is held
+step-near : (p q : Corner) → Near 10000 p → Near 10000 q → Near 20000 (side (step p q))
+step-near p q h k =
+    let px = h .near-x in
+    let py = h .near-y in
+    let qx = k .near-x in
+    let qy = k .near-y in
+    record { near-x = within (search bounds depth 12) tt; near-y = within (search bounds depth 12) tt }
+
+module _ (o : Outline) (h : Held o) where
+  held-near : (i : ℕ) → i < length (cornersHeld o) → Near 10000 (corner (cornersHeld o) i)
+  held-near i l = rw (held-corner o (h .kept) i (omega (arith, held-length o (h .kept)))) (h .near i)
+
+  held-side : (i : ℕ) → i < o .count → Near 20000 (side (edge (cornersHeld o) i))
+  held-side i l = subst (λ e. Near 20000 (side e)) (sym (held-edge o (h .kept) i l)) (step-near _ _ (h .near i) (h .near (next (o .count) i)))
+
+-- ---- the interval of a list of corners is in order
+low-le-high : (D : Corner) (A : List Corner) → 1 ≤ length A → low D A ≤ℤ high D A
+unfolding low high
+low-le-high D [] h = absurd (omega arith)
+low-le-high D (a ∷ A) h =
+    let l = map (dot D) (a ∷ A) in
+    let m = mem-at l 0 (pos 0) (omega arith) in
+    omega (ints, best-ltZ-bound (pos 0) l (dot D a) m, best-gtZ-bound (pos 0) l (dot D a) m)
+
+-- ---- a move that is fit
+module _ (m : HeldMove) (f : Fit m) where
+  pub sideCount-is : sideCount (moveHeld m) ≡ m .a .count + m .b .count
+  sideCount-is = ap₂ _+_ (held-length (m .a) (f .held-a .kept)) (held-length (m .b) (f .held-b .kept))
+
+  some-corners-a : 1 ≤ length (cornersHeld (m .a))
+  some-corners-a = let s = f .some-a in omega (arith, held-length (m .a) (f .held-a .kept))
+
+  some-corners-b : 1 ≤ length (cornersHeld (m .b))
+  some-corners-b = let s = f .some-b in omega (arith, held-length (m .b) (f .held-b .kept))
+
+  module _ (k : ℕ) (h : k < sideCount (moveHeld m)) where
+    abbrev D : Corner
+    D = sideOf (moveHeld m) k
+
+    pub side-near : Near 20000 (sideOf (moveHeld m) k)
+    unfolding sideOf
+    side-near = go (ltb k (length (cornersHeld (m .a)))) refl
+      where
+        go : (t : Bool) → ltb k (length (cornersHeld (m .a))) ≡ t → Near 20000 (cond t (side (edge (cornersHeld (m .a)) k)) (side (edge (cornersHeld (m .b)) (k - length (cornersHeld (m .a))))))
+        go true e = held-side (m .a) (f .held-a) k (omega (arith, ltb-true, held-length (m .a) (f .held-a .kept)))
+        go false e = held-side (m .b) (f .held-b) (k - length (cornersHeld (m .a))) (omega (arith, ltb-false, held-length (m .b) (f .held-b .kept)))
+
+    pub low-a-within : Within 400000000 (low D (cornersHeld (m .a)))
+    low-a-within = low-within D (cornersHeld (m .a)) side-near some-corners-a (held-near (m .a) (f .held-a))
+
+    pub low-b-within : Within 400000000 (low D (cornersHeld (m .b)))
+    low-b-within = low-within D (cornersHeld (m .b)) side-near some-corners-b (held-near (m .b) (f .held-b))
+
+    pub high-a-within : Within 400000000 (high D (cornersHeld (m .a)))
+    high-a-within = high-within D (cornersHeld (m .a)) side-near some-corners-a (held-near (m .a) (f .held-a))
+
+    pub high-b-within : Within 400000000 (high D (cornersHeld (m .b)))
+    high-b-within = high-within D (cornersHeld (m .b)) side-near some-corners-b (held-near (m .b) (f .held-b))
+
+    pub speed-a-within : Within 400000000 (dot D (m .va))
+    speed-a-within = dot-within D (m .va) side-near (f .near-va)
+
+    pub speed-b-within : Within 400000000 (dot D (m .vb))
+    speed-b-within = dot-within D (m .vb) side-near (f .near-vb)
+
+    pub span-good : Good (natAbs (m .limit)) (span (moveHeld m) k)
+    unfolding span
+    span-good =
+        let A = cornersHeld (m .a) in
+        let B = cornersHeld (m .b) in
+        let a = low-le-high D A some-corners-a in
+        let b = low-le-high D B some-corners-b in
+        window-good (low D A -ℤ high D B) (high D A -ℤ low D B) (dot D (m .vb) -ℤ dot D (m .va)) (natAbs (m .limit)) (add-le _ _ _ _ a (omega (ints, P-neg (high D B), N-neg (high D B), P-neg (low D B), N-neg (low D B))))

@@ -1,0 +1,32 @@
+-- What was read is answered: a move beside its refusal is answered as the two are.
+use mathlib.Core.Path.{sym, _∙_, ap, subst}
+use mir.Facts.{toZ-ofZ}
+use Rattle.verdict.specs.HeldMove.{moveHeld}
+use Rattle.verdict.specs.Answer.{answerUnless, answerOfLists}
+use Rattle.verdict.specs.Readings.{Readable}
+use Rattle.verdict.proofs.Listed.{reading-readable, reading-answer, lists-accepted}
+use borrow.Author.Needs.{needs}
+use Rattle.verdict.proofs.answer_of_lists.Statement.{statement}
+use Rattle.verdict.proofs.answer_of_lists.Tie as tie
+use Rattle.verdict.proofs.answer_of_lists.Reads as reads
+use Rattle.verdict.proofs.answer_of_lists.Lts as lts
+use Rattle.verdict.proofs.answer_of.Reads as answer-of-reads
+use Rattle.verdict.proofs.lists.read_lists.Reads as read-lists-reads
+
+read-lists-requires : tie.Need-read-lists-requires
+read-lists-requires c κs = search needs
+
+answer-of-requires : tie.Need-answer-of-requires
+answer-of-requires c κs =
+    let a = c .before .args in
+    subst Readable (sym (c .read-lists .ensures)) (reading-readable _ _ (lists-accepted (a .a .now) (a .b .now) (a .va) (a .vb) _))
+
+returns : tie.Need-returns
+unfolding answerOfLists
+returns c =
+    let a = c .before .before .args in
+    c .answer-of .ensures ∙ ap (λ r. answerUnless (r .refusal) (moveHeld (r .held))) (c .before .read-lists .ensures) ∙ reading-answer _ _ (lists-accepted (a .a .now) (a .b .now) (a .va) (a .vb) _)
+    ∙ ap (answerOfLists (a .a .now) (a .b .now) (a .va) (a .vb)) (toZ-ofZ (c .before .before .fits .limit))
+
+pub answer-of-lists-spec : {M : Type 1} → statement M
+answer-of-lists-spec = tie.close (tie.spec read-lists-requires answer-of-requires returns)

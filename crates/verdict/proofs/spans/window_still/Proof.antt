@@ -1,0 +1,43 @@
+-- Each answer is the one that the definition's own tests lead to; the limit is small and not below zero, so its cast keeps it.
+use mathlib.Core.Path.{_≡_, sym, _∙_, ap}
+use mathlib.Core.Bool.{true, false}
+use native.Mathlib.Omega.{arith}
+use lib.IntN.{pos}
+use lib.Signed.{ltZ}
+use mir.Facts.{toZ-ofZ}
+use Rattle.verdict.specs.Span.{windowStill}
+use Rattle.verdict.proofs.Standing.{cast-fits, limit-within, stands-whole, stands-limit}
+use Rattle.verdict.proofs.spans.window_still.Statement.{statement}
+use Rattle.verdict.proofs.spans.window_still.Tie as tie
+use Rattle.verdict.proofs.spans.window_still.Reads as reads
+use Rattle.verdict.proofs.spans.window_still.Lts as lts
+
+returns : tie.Need-returns
+unfolding windowStill
+returns c =
+    let s = c .before in
+    let above : ltZ (pos 0) (s .args .lo) ≡ true = ap (ltZ (pos 0)) (sym (toZ-ofZ (s .fits .lo))) ∙ c .if1 .taken in
+    rw above tt
+
+not-above : (c : lts.Else1 reads.Pre reads.Post) → ltZ (pos 0) (c .before .args .lo) ≡ false
+not-above c = ap (ltZ (pos 0)) (sym (toZ-ofZ (c .before .fits .lo))) ∙ c .if1 .left
+
+returns-2 : tie.Need-returns-2
+unfolding windowStill
+returns-2 c =
+    let s = c .before .before in
+    let below : ltZ (s .args .hi) (pos 0) ≡ true = ap (λ z. ltZ z (pos 0)) (sym (toZ-ofZ (s .fits .hi))) ∙ c .if2 .taken in
+    rw (not-above (c .before), below) tt
+
+cast-t6 : tie.Need-cast-t6
+cast-t6 c = let s = c .before .before in cast-fits (s .args .limit) (s .fits .limit) (s .pre .0) (limit-within (s .args .limit) (s .pre .0) (s .pre .1))
+
+returns-3 : tie.Need-returns-3
+unfolding windowStill
+returns-3 c =
+    let s = c .before .before in
+    let not-below : ltZ (s .args .hi) (pos 0) ≡ false = ap (λ z. ltZ z (pos 0)) (sym (toZ-ofZ (s .fits .hi))) ∙ c .if2 .left in
+    rw (not-above (c .before), not-below, toZ-ofZ (s .fits .limit)) (stands-whole 0 (omega arith), stands-limit (s .args .limit) (s .pre .0) (s .pre .1))
+
+pub window-still-spec : {M : Type 1} → statement M
+window-still-spec = tie.close (tie.spec returns returns-2 cast-t6 returns-3)

@@ -1,0 +1,28 @@
+-- Moves that were asked about, as they are held beside their refusal.
+--   refusedReading r                     refused with r: the move is all zeros
+--   readingUnless r m                    the move m, or refused where r is not 0
+--   readingOfLists xs ys va vb T         of a move handed in as lists
+--   Readable r                           refused, or accepted and fit to be worked
+use mathlib.Core.Path.{_≡_}
+use mathlib.Core.Bool.{cond}
+use mathlib.Core.List.{List}
+use Prim.Native.Nat.{ℕ}
+use lib.Dec.{eqb}
+use lib.IntN.{ℤ}
+use Rattle.plane.specs.declared.Corner.{Corner}
+use Rattle.verdict.specs.Move.{Move, moveOfLists, nothing}
+use Rattle.verdict.specs.HeldMove.{heldMove, Fit}
+use Rattle.verdict.specs.Refusal.{refusalOfLists}
+use Rattle.verdict.specs.declared.Reading.{Reading}
+
+abbrev pub refusedReading : ℕ → Reading
+refusedReading r = record { refusal = r; held = heldMove nothing }
+
+unfoldable pub readingUnless : ℕ → Move → Reading
+readingUnless r m = cond (eqb r 0) (record { refusal = 0; held = heldMove m }) (refusedReading r)
+
+abbrev pub readingOfLists : List ℤ → List ℤ → Corner → Corner → ℤ → Reading
+readingOfLists xs ys va vb T = readingUnless (refusalOfLists xs ys va vb T) (moveOfLists xs ys va vb T)
+
+abbrev pub Readable : Reading → Type 0
+Readable r = r .refusal ≡ 0 → Fit (r .held)
