@@ -24,7 +24,7 @@ use Rattle.frame.proofs.ByteLists.{Bytes, byteAt-bound, append-bytes, d
 use Rattle.frame.proofs.NumberBytes.{number2-bytes2, bytes2-number2, number2-bound, twos-bound, signed-twos, twos-signed}
 
 -- ---- from the numbers to the bytes and back
-mag-within : (z : ℤ) → Within 10000 z → mag z < 32768
+pub mag-within : (z : ℤ) → Within 10000 z → mag z < 32768
 mag-within (pos n) h = omega (arith, h .le)
 mag-within (negsuc n) h = omega (arith, h .le)
 

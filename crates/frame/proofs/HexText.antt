@@ -83,7 +83,7 @@ unhex-length [] = refl
 unhex-length (h ∷ []) = refl
 unhex-length (h ∷ l ∷ cs) = omega (arith, unhex-length cs)
 
-digits-yes : (c : ℕ) (cs : List ℕ) → digits (c ∷ cs) ≡ true → (digit c < 16) × (digits cs ≡ true)
+pub digits-yes : (c : ℕ) (cs : List ℕ) → digits (c ∷ cs) ≡ true → (digit c < 16) × (digits cs ≡ true)
 unfolding digits
 digits-yes c cs d =
     let k = and-eq-true-iff (ltb (digit c) 16) (digits cs) .0 d in

@@ -4,3 +4,9 @@ pub mod HexText
 pub mod FrameMove
 pub mod Readable
 pub mod RoundTrip
+pub mod Decoding
+pub mod Words
+pub mod Parts
+pub mod Answering
+pub mod Pushing
+pub mod Storing

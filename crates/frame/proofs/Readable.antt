@@ -1,6 +1,6 @@
 -- What a line that is not refused has: none of the reasons applies to it, so each of their tests passes, and the other way round.
-use mathlib.Core.Path.{_≡_}
-use mathlib.Core.Bool.{true, and-eq-true-iff}
+use mathlib.Core.Path.{_≡_, refl}
+use mathlib.Core.Bool.{Bool, true, false, and-eq-true-iff}
 use mathlib.Core.List.{List}
 use Prim.Native.Nat.{ℕ, _+_, _*_, _%_, _≤_, _<_}
 use native.Mathlib.Omega.{arith}
@@ -42,6 +42,13 @@ textual-yes l e =
 
 pub textual-true : (l : List ℕ) → Textual l → textual l ≡ true
 textual-true l t = rw (lt-ltb 0 (length l) (t .some), eq-eqb (length l % 2) 0 (t .even), le-leb (length l) 282 (t .short)) (t .digital)
+
+pub textual-no : (l : List ℕ) → ¬ Textual l → textual l ≡ false
+textual-no l h = go (textual l) (textual-yes l)
+  where
+    go : (t : Bool) → (t ≡ true → Textual l) → t ≡ false
+    go true y = absurd (h (y refl))
+    go false y = refl
 
 pub sized-yes : (f : List ℕ) → sized f ≡ true → Sized f
 sized-yes f e =

@@ -1,0 +1,46 @@
+// Moves out of lines.
+ghost use mathlib.Core.Path.{_≡_};
+ghost use Prim.Native.Nat.{_≤_};
+ghost use lib.ListN.{length};
+ghost use Rattle.frame.specs.Answers.{reading, readingOfFrame};
+use super::fields;
+use super::hex;
+use verdict::Reading;
+use verdict::lists;
+use verdict::refusals;
+
+// The move of a frame, or 3 to 9, the first that applies.
+fn read_frame(frame: &[u8]) -> Reading
+    requires { ⌜ 1 ≤ length (now frame) ⌝ }
+    ensures { λ r. ⌜ r ≡ readingOfFrame (now (frame .entry)) ⌝ }
+{
+    if frame[0] != 1 {
+        return lists::refused(3);
+    }
+    if !fields::is_sized(frame) {
+        return lists::refused(4);
+    }
+    let m = fields::move_in(frame);
+    let r = refusals::refusal(m);
+    if r != 0 {
+        return lists::refused(r);
+    }
+    Reading {
+        refusal: 0,
+        held: m,
+    }
+}
+
+// The move of a line that stands without its 0a, or 2 to 9, the first that applies.
+pub fn read(line: &[u8]) -> Reading
+    ensures { λ r. ⌜ r ≡ reading (now (line .entry)) ⌝ }
+{
+    let d = hex::decode(line);
+    if !d.ok {
+        return lists::refused(2);
+    }
+    let f = d.frame;
+    let bytes = f.bytes;
+    let n = f.count;
+    read_frame(&bytes[..n])
+}
