@@ -16,6 +16,7 @@ use Rattle.whole.proofs.Order.{≤-or-<}
 use Rattle.whole.proofs.Members.{mem-map, map-mem, best-member, best-ltZ-bound, best-gtZ-bound}
 use Rattle.plane.specs.Point.{dot}
 use Rattle.plane.specs.Interval.{low, high, shares}
+use Rattle.plane.specs.Apart.{Before, Apart}
 use Rattle.plane.specs.declared.Corner.{Corner}
 
 -- ---- the ends
@@ -47,13 +48,6 @@ shares-yes D A B e =
 pub shares-true : (D : Corner) (A B : List Corner) → low D A ≤ℤ high D B → low D B ≤ℤ high D A → shares D A B ≡ true
 unfolding shares
 shares-true D A B h k = and-eq-true-iff (leZ (low D A) (high D B)) (leZ (low D B) (high D A)) .1 (omega ints, omega ints)
-
--- in the direction D each corner of A comes before each of B
-abbrev pub Before : Corner → List Corner → List Corner → Type 0
-Before D A B = (a b : Corner) → Mem a A → Mem b B → dot D a <ℤ dot D b
-
-abbrev pub Apart : Corner → List Corner → List Corner → Type 0
-Apart D A B = Before D A B ⊎ Before D B A
 
 ends-before : (D : Corner) (A B : List Corner) → high D A <ℤ low D B → Before D A B
 ends-before D A B h a b m n = omega (ints, high-bound D A a m, low-bound D B b n)

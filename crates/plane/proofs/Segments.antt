@@ -20,7 +20,8 @@ use Rattle.plane.specs.Inside.{meetIn, meet}
 use Rattle.plane.specs.CommonPoint.{CommonPoint}
 use Rattle.plane.specs.declared.Corner.{Corner}
 use Rattle.plane.proofs.Products.{coords, cross-self, lagrange-cross, lagrange-dot}
-use Rattle.plane.proofs.Intervals.{Before, Apart, shares-clash}
+use Rattle.plane.proofs.Intervals.{shares-clash}
+use Rattle.plane.specs.Apart.{Before, Apart}
 use Rattle.plane.proofs.Common.{common-shares}
 use Rattle.plane.proofs.Extreme.{After, left, along}
 use Rattle.plane.proofs.Nearest.{Nearest, nearest-flip, common-or-nearest, cross-back}

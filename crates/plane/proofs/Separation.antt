@@ -22,7 +22,8 @@ use Rattle.plane.specs.Interval.{shares}
 use Rattle.plane.specs.CommonPoint.{CommonPoint}
 use Rattle.plane.specs.declared.Corner.{Corner}
 use Rattle.plane.proofs.Products.{coords, cross-four, lagrange-cross}
-use Rattle.plane.proofs.Intervals.{Before, Apart, shares-clash}
+use Rattle.plane.proofs.Intervals.{shares-clash}
+use Rattle.plane.specs.Apart.{Before, Apart}
 use Rattle.plane.proofs.Extreme.{After, left, along, after-nonneg, flip-nonneg}
 use Rattle.plane.proofs.Nearest.{Nearest, nearest-flip, common-or-nearest}
 use Rattle.plane.proofs.Wide.{Wide, Into, from-end, edge-into}

@@ -3,5 +3,6 @@ pub mod Near
 pub mod Motion
 pub mod Edges
 pub mod Interval
+pub mod Apart
 pub mod Inside
 pub mod CommonPoint

@@ -11,3 +11,4 @@ pub mod Refusal
 pub mod Answer
 pub mod Readings
 pub mod Cases
+pub mod Promise
