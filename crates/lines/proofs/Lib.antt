@@ -1,4 +1,6 @@
 pub mod LineParts
 pub mod Joined
 pub mod Chunks
+pub mod Stream
+pub mod Taken
 pub mod Printed
