@@ -1,6 +1,6 @@
 pub mod LineParts
 pub mod Joined
 pub mod Chunks
-pub mod Stream
+pub mod Parts
 pub mod Taken
 pub mod Printed
