@@ -1,3 +1,4 @@
+pub mod Worked
 pub mod Accepted
 pub mod Refusing
 pub mod Listed
@@ -9,4 +10,3 @@ pub mod Standing
 pub mod FitSpans
 pub mod Leading
 pub mod ShowingLaws
-pub mod Worked

@@ -64,14 +64,14 @@ fn window_ahead(lo: i64, hi: i64, w: i64, limit: i64) -> Span
 }
 
 // The same for w zero.
-fn window_still(lo: i64, hi: i64, limit: i64) -> Span
+fn window_still(low: i64, high: i64, limit: i64) -> Span
     requires { ⌜ (pos 0 ≤ℤ limit) × (limit ≤ℤ pos 10000) ⌝ }
-    ensures { λ r. ⌜ StandsFor r (windowStill lo hi (natAbs limit)) ⌝ }
+    ensures { λ r. ⌜ StandsFor r (windowStill low high (natAbs limit)) ⌝ }
 {
-    if 0 < lo {
+    if 0 < low {
         return Span::Empty;
     }
-    if hi < 0 {
+    if high < 0 {
         return Span::Empty;
     }
     Span::Between(

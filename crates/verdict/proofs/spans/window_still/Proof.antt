@@ -16,17 +16,17 @@ returns : tie.Need-returns
 unfolding windowStill
 returns c =
     let s = c .before in
-    let above : ltZ (pos 0) (s .args .lo) ≡ true = ap (ltZ (pos 0)) (sym (toZ-ofZ (s .fits .lo))) ∙ c .if1 .taken in
+    let above : ltZ (pos 0) (s .args .low) ≡ true = ap (ltZ (pos 0)) (sym (toZ-ofZ (s .fits .low))) ∙ c .if1 .taken in
     rw above tt
 
-not-above : (c : lts.Else1 reads.Pre reads.Post) → ltZ (pos 0) (c .before .args .lo) ≡ false
-not-above c = ap (ltZ (pos 0)) (sym (toZ-ofZ (c .before .fits .lo))) ∙ c .if1 .left
+not-above : (c : lts.Else1 reads.Pre reads.Post) → ltZ (pos 0) (c .before .args .low) ≡ false
+not-above c = ap (ltZ (pos 0)) (sym (toZ-ofZ (c .before .fits .low))) ∙ c .if1 .left
 
 returns-2 : tie.Need-returns-2
 unfolding windowStill
 returns-2 c =
     let s = c .before .before in
-    let below : ltZ (s .args .hi) (pos 0) ≡ true = ap (λ z. ltZ z (pos 0)) (sym (toZ-ofZ (s .fits .hi))) ∙ c .if2 .taken in
+    let below : ltZ (s .args .high) (pos 0) ≡ true = ap (λ z. ltZ z (pos 0)) (sym (toZ-ofZ (s .fits .high))) ∙ c .if2 .taken in
     rw (not-above (c .before), below) tt
 
 cast-t6 : tie.Need-cast-t6
@@ -36,7 +36,7 @@ returns-3 : tie.Need-returns-3
 unfolding windowStill
 returns-3 c =
     let s = c .before .before in
-    let not-below : ltZ (s .args .hi) (pos 0) ≡ false = ap (λ z. ltZ z (pos 0)) (sym (toZ-ofZ (s .fits .hi))) ∙ c .if2 .left in
+    let not-below : ltZ (s .args .high) (pos 0) ≡ false = ap (λ z. ltZ z (pos 0)) (sym (toZ-ofZ (s .fits .high))) ∙ c .if2 .left in
     rw (not-above (c .before), not-below, toZ-ofZ (s .fits .limit)) (stands-whole 0 (omega arith), stands-limit (s .args .limit) (s .pre .0) (s .pre .1))
 
 pub window-still-spec : {M : Type 1} → statement M
