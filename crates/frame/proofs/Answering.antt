@@ -3,14 +3,12 @@ use mathlib.Core.Path.{_≡_, refl, sym, ap, _∙_}
 use mathlib.Core.Logic.{_≢_}
 use mathlib.Core.Bool.{Bool, true, false, cond}
 use mathlib.Core.List.{List}
-use Prim.Native.Nat.{ℕ, _≤_}
+use Prim.Native.Nat.{ℕ}
 use native.Mathlib.Omega.{arith}
 use lib.Dec.{eqb}
-use lib.ListN.{length}
 use borrow.Author.Tests.{eqb-true, eq-eqb, ne-eqb}
 use Rattle.outline.specs.Refusal.{firstThatApplies, counted}
 use Rattle.outline.proofs.Ranges.{counted-yes}
-use Rattle.outline.proofs.Testing.{held-corners}
 use Rattle.verdict.specs.Move.{Move, nothing}
 use Rattle.verdict.specs.HeldMove.{moveHeld, heldMove}
 use Rattle.verdict.specs.Refusal.{refusal}
@@ -20,7 +18,7 @@ use Rattle.frame.specs.MoveFrame.{byteAt, moveOfFrame}
 use Rattle.frame.specs.Reading.{sized, refusalOfFrame, refusalOfLine, moveOfLine}
 use Rattle.verdict.proofs.Listed.{held-move}
 use Rattle.frame.specs.Answers.{reading, readingOfFrame}
-use Rattle.verdict.specs.Readings.{refusedReading}
+use Rattle.verdict.specs.Readings.{refusedReading, readingUnless}
 use Rattle.verdict.specs.declared.Reading.{Reading}
 use Rattle.frame.proofs.FrameMove.{cornersIn-length}
 use Rattle.frame.proofs.Readable.{Textual, textual-true, textual-no, Sized}
@@ -90,5 +88,14 @@ module _ (l : List ℕ) where
   reading-text t = ap (λ r. readingAs r (moveOfFrame (unhex l))) (refusal-text t) ∙ go (refusalOfFrame (unhex l)) (moveOfFrame (unhex l)) (eqb (refusalOfFrame (unhex l)) 0) refl
     where
       go : (r : ℕ) (m : Move) (t : Bool) → eqb r 0 ≡ t → _≡_ {A = Reading} (record { refusal = r; held = heldMove (cond t m nothing) }) (cond t (record { refusal = 0; held = heldMove m }) (refusedReading r))
+      go r m true e = ap (λ n. record { refusal = n; held = heldMove m }) (eqb-true r 0 e)
+      go r m false e = refl
+
+  -- beside a refusal stands the move of zeros
+  pub reading-unless : reading l ≡ readingUnless (refusalOfLine l) (moveOfLine l)
+  unfolding moveOfLine readingUnless
+  reading-unless = go (refusalOfLine l) (moveOfFrame (unhex l)) (eqb (refusalOfLine l) 0) refl
+    where
+      go : (r : ℕ) (m : Move) (t : Bool) → eqb r 0 ≡ t → _≡_ {A = Reading} (record { refusal = r; held = heldMove (cond t m nothing) }) (cond t (record { refusal = 0; held = heldMove (cond t m nothing) }) (refusedReading r))
       go r m true e = ap (λ n. record { refusal = n; held = heldMove m }) (eqb-true r 0 e)
       go r m false e = refl

@@ -10,3 +10,4 @@ pub mod Parts
 pub mod Answering
 pub mod Pushing
 pub mod Storing
+pub mod Says

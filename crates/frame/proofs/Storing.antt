@@ -7,7 +7,10 @@ use native.Mathlib.Omega.{arith}
 use lib.ListN.{length, getD, take, drop, set, length-append, length-drop}
 use lib.Seq.{append-snoc, length-take-le, drop-drop, take-at, drop-at, sets, sets-eq}
 use Rattle.frame.specs.Hex.{character, hex}
+use Rattle.frame.specs.Framed.{framed, frameBytes}
+use Rattle.frame.specs.declared.Frame.{Frame}
 use Rattle.frame.proofs.HexText.{hex-length}
+use Rattle.frame.proofs.Pushing.{framed-bytes}
 
 -- the values vs, stored where the new part p ends and the rest of l begins
 store : (vs p l : List ℕ) (k : ℕ) → length p ≡ k → k + length vs ≤ length l → sets (p ++ drop k l) k vs ≡ p ++ vs ++ drop (k + length vs) l
@@ -38,3 +41,15 @@ module _ (bs l m : List ℕ) (i : ℕ) (is : m ≡ hex (take i bs) ++ drop (2 * 
   store-end h k =
       let long : length (hex (take i bs)) ≡ 2 * i = omega (arith, hex-length (take i bs), length-take-le i bs (omega arith)) in
       rw is (store (10 ∷ []) (hex (take i bs)) l (2 * i) long k) ∙ append-snoc (hex (take i bs)) 10 (drop (2 * i + 1) l)
+
+-- ---- the line of a frame that holds the bytes bs
+module _ (bs : List ℕ) where
+  pub line-length : length (hex bs ++ (10 ∷ [])) ≡ 2 * length bs + 1
+  line-length = length-append (hex bs) (10 ∷ []) ∙ ap (λ n. n + 1) (hex-length bs)
+
+  module _ (f : Frame) (is : f ≡ framed bs) where
+    pub line-count : 2 * f .count + 1 ≡ length (hex bs ++ (10 ∷ []))
+    line-count = ap (λ g. 2 * g .count + 1) is ∙ sym line-length
+
+    pub line-stored : (l : List ℕ) → hex (frameBytes f) ++ (10 ∷ drop (2 * f .count + 1) l) ≡ (hex bs ++ (10 ∷ [])) ++ drop (length (hex bs ++ (10 ∷ []))) l
+    line-stored l = ap₂ (λ b n. hex b ++ (10 ∷ drop n l)) (ap frameBytes is ∙ framed-bytes bs) line-count ∙ sym (append-snoc (hex bs) 10 _)

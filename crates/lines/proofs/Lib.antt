@@ -1,6 +1,9 @@
 pub mod LineParts
 pub mod Joined
 pub mod Chunks
-pub mod Parts
 pub mod Taken
+pub mod Parts
+pub mod Beginnings
+pub mod Feeds
+pub mod Program
 pub mod Printed

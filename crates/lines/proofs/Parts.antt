@@ -77,13 +77,13 @@ alike-cases u v e = go (decLe 283 (length u))
 alike-answer : (u v : List ℕ) → Alike u v → answerOfLine u ≡ answerOfLine v
 alike-answer u v e = ⊎-elim (ap answerOfLine) (λ h. long-refused u (h .0) ∙ sym (long-refused v (h .1))) (alike-cases u v e)
 
-alike-more : (u v : List ℕ) (c : ℕ) → Alike u v → Alike (u ++ (c ∷ [])) (v ++ (c ∷ []))
-alike-more u v c e = ⊎-elim (λ p. ap (λ t. kept (t ++ (c ∷ []))) p) (λ h. take-append-le 283 u (c ∷ []) (h .0) ∙ e ∙ sym (take-append-le 283 v (c ∷ []) (h .1))) (alike-cases u v e)
+alike-append : (u v s : List ℕ) → Alike u v → Alike (u ++ s) (v ++ s)
+alike-append u v s e = ⊎-elim (λ p. ap (λ t. kept (t ++ s)) p) (λ h. take-append-le 283 u s (h .0) ∙ e ∙ sym (take-append-le 283 v s (h .1))) (alike-cases u v e)
 
 alike-answers : (u v s : List ℕ) → Alike u v → answersTo u s ≡ answersTo v s
 unfolding answersTo finished flatMap
 alike-answers u v [] e = refl
-alike-answers u v (c ∷ s) e = go (eqb c 10) (alike-answers (u ++ (c ∷ [])) (v ++ (c ∷ [])) s (alike-more u v c e))
+alike-answers u v (c ∷ s) e = go (eqb c 10) (alike-answers (u ++ (c ∷ [])) (v ++ (c ∷ [])) s (alike-append u v (c ∷ []) e))
   where
     says : List (List ℕ) → List ℕ
     says ls = flatMap (λ l. answerLine (answerOfLine l)) ls
@@ -95,7 +95,7 @@ alike-answers u v (c ∷ s) e = go (eqb c 10) (alike-answers (u ++ (c ∷ [])) (
 alike-unfinished : (u v s : List ℕ) → Alike u v → Alike (unfinished u s) (unfinished v s)
 unfolding unfinished
 alike-unfinished u v [] e = e
-alike-unfinished u v (c ∷ s) e = go (eqb c 10) (alike-unfinished (u ++ (c ∷ [])) (v ++ (c ∷ [])) s (alike-more u v c e))
+alike-unfinished u v (c ∷ s) e = go (eqb c 10) (alike-unfinished (u ++ (c ∷ [])) (v ++ (c ∷ [])) s (alike-append u v (c ∷ []) e))
   where
     go : (t : Bool) → Alike (unfinished (u ++ (c ∷ [])) s) (unfinished (v ++ (c ∷ [])) s) → Alike (cond t (unfinished [] s) (unfinished (u ++ (c ∷ [])) s)) (cond t (unfinished [] s) (unfinished (v ++ (c ∷ [])) s))
     go true h = refl
@@ -110,10 +110,16 @@ answers-kept u s = alike-answers (kept u) u s (kept-alike u)
 pub unfinished-kept : (u s : List ℕ) → kept (unfinished (kept u) s) ≡ kept (unfinished u s)
 unfinished-kept u s = alike-unfinished (kept u) u s (kept-alike u)
 
+pub kept-append : (u s : List ℕ) → kept (kept u ++ s) ≡ kept (u ++ s)
+kept-append u s = alike-append (kept u) u s (kept-alike u)
+
+pub answer-kept : (u : List ℕ) → answerOfLine (kept u) ≡ answerOfLine u
+answer-kept u = alike-answer (kept u) u (kept-alike u)
+
 none-kept : (u : List ℕ) → eqb (length (kept u)) 0 ≡ eqb (length u) 0
 none-kept [] = refl
 none-kept (c ∷ u) = eqb·suc-zero (length (take 282 u)) ∙ sym (eqb·suc-zero (length u))
 
 pub last-kept : (u : List ℕ) → lastAnswer (kept u) ≡ lastAnswer u
 unfolding lastAnswer
-last-kept u = ap₂ (λ t r. cond t [] (answerLine r)) (none-kept u) (alike-answer (kept u) u (kept-alike u))
+last-kept u = ap₂ (λ t r. cond t [] (answerLine r)) (none-kept u) (answer-kept u)

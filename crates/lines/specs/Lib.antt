@@ -4,4 +4,6 @@ pub mod Joined
 pub mod Chunks
 pub mod Output
 pub mod Stream
+pub mod Begun
+pub mod Feeding
 pub mod Examples

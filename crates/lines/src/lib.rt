@@ -4,6 +4,21 @@ ghost use Prim.Native.Nat.{_+_, _≤_};
 ghost use lib.ListN.{length};
 ghost use Rattle.lines.specs.Taking.{lineAt, isAt, nextAt};
 
+pub mod stream; // the answers to an input that comes in parts
+
+// A line begun: its first 283 bytes, unused ones zero, and their count. A line of more than 282 is refused whatever it holds.
+pub struct Begun {
+    pub bytes: [u8; 283],
+    pub count: usize,
+}
+
+// What feeding a part did: the line that stands begun after it, how much of the part was taken, how many bytes were written.
+pub struct Fed {
+    pub begun: Begun,
+    pub taken: usize,
+    pub written: usize,
+}
+
 // Where the line that starts at `at` ends: its 0a, or the input's end.
 fn line_end(input: &[u8], at: usize) -> usize
     requires { ⌜ at ≤ length (now input) ⌝ }

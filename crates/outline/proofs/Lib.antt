@@ -1,4 +1,6 @@
 pub mod Soundness
+pub mod WideOutline
+pub mod Placing
 pub mod Reasons
 pub mod Ranges
 pub mod Pairs

@@ -73,7 +73,7 @@ cross-nowhere : (p q : Corner) → cross (step p p) q ≡ pos 0
 unfolding cross
 cross-nowhere p q = by-ring (p .x ∷ p .y ∷ q .x ∷ q .y ∷ []) (search reps depth 12) (search reps depth 12) tt
 
-cross-start : (e p : Corner) → cross e (step p p) ≡ pos 0
+pub cross-start : (e p : Corner) → cross e (step p p) ≡ pos 0
 unfolding cross
 cross-start e p = by-ring (e .x ∷ e .y ∷ p .x ∷ p .y ∷ []) (search reps depth 12) (search reps depth 12) tt
 

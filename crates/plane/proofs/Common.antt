@@ -11,7 +11,7 @@ use Rattle.plane.specs.CommonPoint.{CommonPoint, total, weighted}
 use Rattle.plane.specs.declared.Corner.{Corner}
 use Rattle.plane.proofs.Hull.{within-common, within-shares}
 
-pub common-flip : {A B : List Corner} → CommonPoint A B → CommonPoint B A
+unfoldable pub common-flip : {A B : List Corner} → CommonPoint A B → CommonPoint B A
 common-flip c = record {
   onA = c .onB;
   onB = c .onA;

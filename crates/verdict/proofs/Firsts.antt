@@ -1,5 +1,5 @@
 -- The greatest begin and the least end of a list of spans none of which is empty, and the lowest sides that have them. Both are the best member of a list of times by a ranking, `before` or `before` turned round: so each law is proved once, of a ranking and of the one end of a span that is ranked.
-use mathlib.Core.Path.{_≡_, _∙_, ap}
+use mathlib.Core.Path.{_≡_, sym, _∙_, ap}
 use mathlib.Core.Bool.{Bool, true, false}
 use mathlib.Core.Logic.{_↔_}
 use mathlib.Core.List.{List, [], _∷_, map}
@@ -13,7 +13,7 @@ use Rattle.whole.specs.Lowest.{lowest}
 use Rattle.whole.specs.Time.{time, Proper, before, same, Reduced}
 use Rattle.whole.specs.declared.Time.{Time}
 use Rattle.whole.proofs.Members.{Ranks, best-member, best-bound, mem-at, at-mem, mem-map, map-mem}
-use Rattle.whole.proofs.Indices.{lowest-is}
+use Rattle.whole.proofs.Indices.{lowest-yes, lowest-least, lowest-is}
 use Rattle.whole.proofs.Fractions.{ranks-before, ranks-after, before-total, same-refl, same-reduced}
 use Rattle.verdict.specs.InSpan.{InSpan}
 use Rattle.verdict.specs.Verdict.{begin, end, spanAt, firstOf, lastOf, firstSide, lastSide}
@@ -69,6 +69,17 @@ module _ {f : Span → Time} {better : Time → Time → Bool} {l : List Span} (
   top-bound : (k : ℕ) → k < length l → better (f (spanAt l k)) top ≡ false
   top-bound k h = best-bound (r .ranks) (time 0 1) (map f l) all-proper (f (spanAt l k)) (mem-map f (spanAt l k) l (mem-at l k Empty h))
 
+  -- the lowest side that has the best
+  abbrev top-side : ℕ
+  top-side = lowest (λ k. same (f (spanAt l k)) top) (length l)
+
+  top-side-at : (top-side < length l) × (top ≡ f (spanAt l top-side))
+  top-side-at =
+      let test : ℕ → Bool = λ k. same (f (spanAt l k)) top in
+      let there : test (top-at .0) ≡ true = rw (← top-at .2) (same-refl top) in
+      let below : top-side < length l = omega (arith, top-at .1, lowest-least test (length l) (top-at .0) there) in
+      (below, sym (same-reduced (f (spanAt l top-side)) top (r .lowest-terms top-side below) top-reduced (lowest-yes test (length l) below)))
+
   -- the best is no better than t exactly when none is
   top-all : (t : Time) → Proper t → ((k : ℕ) → k < length l → better (f (spanAt l k)) t ≡ false) ↔ (better top t ≡ false)
   top-all t p =
@@ -112,6 +123,12 @@ module _ (l : List Span) (a : AllFull l) where
 
   pub last-at : (i : ℕ) × (i < length l) × (lastOf l ≡ end (spanAt l i))
   last-at = top-at ends
+
+  pub firstSide-at : (firstSide l < length l) × (firstOf l ≡ begin (spanAt l (firstSide l)))
+  firstSide-at = top-side-at begins
+
+  pub lastSide-at : (lastSide l < length l) × (lastOf l ≡ end (spanAt l (lastSide l)))
+  lastSide-at = top-side-at ends
 
   pub first-reduced : Reduced (firstOf l)
   first-reduced = top-reduced begins

@@ -1,20 +1,14 @@
 -- The sides and the spans of a move that is fit: a side reaches at most twice as far as corners do, so projections and speeds are small, and each span is well made and has short times.
 use mathlib.Core.Path.{_≡_, refl, sym, subst, ap₂}
 use mathlib.Core.Bool.{Bool, true, false, cond}
-use mathlib.Core.List.{List, [], _∷_, map}
 use Prim.Native.Nat.{ℕ, _+_, _-_, _≤_, _<_}
 use native.Mathlib.Omega.{arith}
 use lib.Dec.{ltb}
-use lib.IntN.{pos, natAbs, _-ℤ_}
+use lib.IntN.{natAbs}
 use lib.ListN.{length}
-use lib.Signed.{_≤ℤ_}
 use borrow.Author.Tests.{ltb-true, ltb-false}
 use Rattle.whole.specs.Within.{Within}
 use Rattle.whole.proofs.Bound.{bounds, within}
-use Rattle.whole.proofs.Parts.{P-neg, N-neg}
-use Rattle.whole.proofs.Linear.{ints}
-use Rattle.whole.proofs.Order.{add-le}
-use Rattle.whole.proofs.Members.{best-ltZ-bound, best-gtZ-bound, mem-at}
 use Rattle.plane.specs.Point.{step, side, dot}
 use Rattle.plane.specs.Near.{Near}
 use Rattle.plane.specs.Edges.{corner, next, edge}
@@ -26,9 +20,11 @@ use Rattle.outline.specs.declared.Outline.{Outline}
 use Rattle.outline.proofs.Places.{held-length, held-corner, held-edge}
 use Rattle.verdict.specs.HeldMove.{Fit, moveHeld}
 use Rattle.verdict.specs.Sides.{sideCount, sideOf}
-use Rattle.verdict.specs.Span.{span}
+use Rattle.verdict.specs.Span.{spans}
+use Rattle.verdict.specs.Verdict.{spanAt}
 use Rattle.verdict.specs.declared.HeldMove.{HeldMove}
-use Rattle.verdict.proofs.Windows.{Good, window-good}
+use Rattle.verdict.proofs.Windows.{Good}
+use Rattle.verdict.proofs.SideTimes.{spans-good}
 
 -- ---- an outline that is held
 step-near : (p q : Corner) → Near 10000 p → Near 10000 q → Near 20000 (side (step p q))
@@ -46,15 +42,6 @@ module _ (o : Outline) (h : Held o) where
   held-side : (i : ℕ) → i < o .count → Near 20000 (side (edge (cornersHeld o) i))
   held-side i l = subst (λ e. Near 20000 (side e)) (sym (held-edge o (h .kept) i l)) (step-near _ _ (h .near i) (h .near (next (o .count) i)))
 
--- ---- the interval of a list of corners is in order
-low-le-high : (D : Corner) (A : List Corner) → 1 ≤ length A → low D A ≤ℤ high D A
-unfolding low high
-low-le-high D [] h = absurd (omega arith)
-low-le-high D (a ∷ A) h =
-    let l = map (dot D) (a ∷ A) in
-    let m = mem-at l 0 (pos 0) (omega arith) in
-    omega (ints, best-ltZ-bound (pos 0) l (dot D a) m, best-gtZ-bound (pos 0) l (dot D a) m)
-
 -- ---- a move that is fit
 module _ (m : HeldMove) (f : Fit m) where
   pub sideCount-is : sideCount (moveHeld m) ≡ m .a .count + m .b .count
@@ -65,6 +52,9 @@ module _ (m : HeldMove) (f : Fit m) where
 
   some-corners-b : 1 ≤ length (cornersHeld (m .b))
   some-corners-b = let s = f .some-b in omega (arith, held-length (m .b) (f .held-b .kept))
+
+  pub spans-fit : (k : ℕ) → k < sideCount (moveHeld m) → Good (natAbs (m .limit)) (spanAt (spans (moveHeld m)) k)
+  spans-fit = spans-good (moveHeld m) some-corners-a some-corners-b
 
   module _ (k : ℕ) (h : k < sideCount (moveHeld m)) where
     abbrev D : Corner
@@ -95,12 +85,3 @@ module _ (m : HeldMove) (f : Fit m) where
 
     pub speed-b-within : Within 400000000 (dot D (m .vb))
     speed-b-within = dot-within D (m .vb) side-near (f .near-vb)
-
-    pub span-good : Good (natAbs (m .limit)) (span (moveHeld m) k)
-    unfolding span
-    span-good =
-        let A = cornersHeld (m .a) in
-        let B = cornersHeld (m .b) in
-        let a = low-le-high D A some-corners-a in
-        let b = low-le-high D B some-corners-b in
-        window-good (low D A -ℤ high D B) (high D A -ℤ low D B) (dot D (m .vb) -ℤ dot D (m .va)) (natAbs (m .limit)) (add-le _ _ _ _ a (omega (ints, P-neg (high D B), N-neg (high D B), P-neg (low D B), N-neg (low D B))))

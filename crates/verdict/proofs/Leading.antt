@@ -36,7 +36,7 @@ use Rattle.verdict.proofs.SpanList.{spans-length, spans-at}
 use Rattle.verdict.proofs.Firsts.{AllFull, first-is, last-is, firstSide-is, lastSide-is}
 use Rattle.verdict.proofs.Emptied.{emptySide-is, emptySide-none, all-full}
 use Rattle.verdict.proofs.Standing.{before-both, stands-whole, stands-limit}
-use Rattle.verdict.proofs.FitSpans.{sideCount-is, span-good}
+use Rattle.verdict.proofs.FitSpans.{sideCount-is, spans-fit}
 
 -- ---- a lead, by a ranking
 -- v gives the value of each of n sides, in lowest terms; a loop over them starts with `start`, which is no better than any
@@ -151,9 +151,6 @@ abbrev pub limitHeld : HeldMove → ℕ
 limitHeld m = natAbs (m .limit)
 
 module _ (m : HeldMove) (f : Fit m) where
-  good-at : (j : ℕ) → j < sidesHeld m → Good (limitHeld m) (spanAt (spansHeld m) j)
-  good-at j h = rw (spans-at (moveHeld m) j h) (span-good m f j h)
-
   begins : Ranking (λ s t. before t s) (time 0 1) (λ j. begin (spanAt (spansHeld m) j)) (sidesHeld m)
   begins =
       record {
@@ -162,7 +159,7 @@ module _ (m : HeldMove) (f : Fit m) where
         stands = λ t s u w h k. before-both u w t s k h;
         start-reduced = whole-reduced 0;
         start-least = λ j h. before-zero (begin (spanAt (spansHeld m) j));
-        lowest-terms = λ j h. good-begin (limitHeld m) (spanAt (spansHeld m) j) (good-at j h);
+        lowest-terms = λ j h. good-begin (limitHeld m) (spanAt (spansHeld m) j) (spans-fit m f j h);
       }
 
   ends : Ranking before (time (limitHeld m) 1) (λ j. end (spanAt (spansHeld m) j)) (sidesHeld m)
@@ -172,8 +169,8 @@ module _ (m : HeldMove) (f : Fit m) where
         total = before-total;
         stands = before-both;
         start-reduced = whole-reduced (limitHeld m);
-        start-least = λ j h. good-end (limitHeld m) (spanAt (spansHeld m) j) (good-at j h) .1;
-        lowest-terms = λ j h. good-end (limitHeld m) (spanAt (spansHeld m) j) (good-at j h) .0;
+        start-least = λ j h. good-end (limitHeld m) (spanAt (spansHeld m) j) (spans-fit m f j h) .1;
+        lowest-terms = λ j h. good-end (limitHeld m) (spanAt (spansHeld m) j) (spans-fit m f j h) .0;
       }
 
 -- ---- the loop
@@ -227,7 +224,7 @@ module _ (m : HeldMove) (f : Fit m) where
       some = let s = f .some-a in omega (arith, sideCount-is m f)
 
       fulls : AllFull (spansHeld m)
-      fulls = all-full (spansHeld m) (limitHeld m) (omega (arith, all, some)) (λ j i. good-at m f j (omega (arith, all))) (omega (arith, emptySide-none (spansHeld m) none))
+      fulls = all-full (spansHeld m) (limitHeld m) (omega (arith, all, some)) (λ j i. spans-fit m f j (omega (arith, all))) (omega (arith, emptySide-none (spansHeld m) none))
 
       pub leading-end : Concludes (moveHeld m) first last
       leading-end =

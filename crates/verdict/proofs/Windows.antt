@@ -1,7 +1,7 @@
 -- A window holds exactly the times s from 0 to T with lo ≤ s w ≤ hi. For w above zero its begin has the value of the greater of lo and 0 over w, its end that of the lesser of hi and T w over w, and both are compared with s by cross products; w below zero is the same with all three turned round.
-use mathlib.Core.Path.{_≡_, refl}
+use mathlib.Core.Path.{_≡_, refl, ap}
 use mathlib.Core.Bool.{Bool, true, false, cond}
-use mathlib.Core.Logic.{_↔_}
+use mathlib.Core.Logic.{_↔_, _⊎_, _≢_, inl, inr}
 use mathlib.Core.List.{[], _∷_}
 use Prim.Native.Nat.{ℕ, zero, suc, _*_, _^_, _≤_, _<_, min, max}
 use native.Mathlib.Nat.{mul-le-mul-right, mul-lt-mul-of-pos-right, eq-one-of-dvd-one}
@@ -15,12 +15,13 @@ use Rattle.whole.specs.declared.Time.{Time}
 use Rattle.whole.proofs.Parts.{P, P-neg, N-neg, split, diff}
 use Rattle.whole.proofs.Bound.{abs-neg}
 use Rattle.whole.proofs.Ring.{reps, by-ring}
-use Rattle.whole.proofs.Linear.{ints}
+use Rattle.whole.proofs.Linear.{ints, lin≡, ≡lin}
 use Rattle.whole.proofs.Order.{mul-≤, mul-<}
 use Rattle.whole.proofs.Divisors.{gcd-divides-right}
 use Rattle.whole.proofs.Fractions.{before-irrefl, before-step, reduced-same, reduced-reduced, reduced-bound}
 use Rattle.verdict.specs.Span.{windowAhead, windowStill, window}
 use Rattle.verdict.specs.InSpan.{InSpan}
+use Rattle.verdict.specs.Verdict.{begin}
 use Rattle.verdict.specs.declared.Span.{Span}
 use Rattle.verdict.specs.declared.Span.the-variants.{Empty, Between}
 
@@ -208,6 +209,35 @@ windowed-good {T} l (always h k) =
 
 pub window-good : (lo hi w : ℤ) (T : ℕ) → lo ≤ℤ hi → Good T (window lo hi w T)
 window-good lo hi w T l = windowed-good l (windowed lo hi w T)
+
+-- ---- a begin above zero: there n/d times w is lo, or hi where w is below zero
+abbrev Reaches : ℤ → ℤ → Span → Type 0
+Reaches z w s = pos (begin s .d) *ℤ z ≡ pos (begin s .n) *ℤ w
+
+value-reached : (lo : ℤ) (q k : ℕ) (b : Time) → 1 ≤ q → Value (P lo) q k b → b .n ≢ 0 → pos (b .d) *ℤ lo ≡ pos (b .n) *ℤ pos q
+value-reached (pos p) q k b h v z = ap pos (omega (arith, v .value))
+value-reached (negsuc j) q k b h v z = absurd (omega (arith, v .value, mul-le-mul-right (b .n) h))
+
+ahead-reached : {lo hi : ℤ} {q T : ℕ} {s : Span} → 1 ≤ q → Ahead lo q T hi s → begin s .n ≢ 0 → Reaches lo (pos q) s
+ahead-reached hq (ended k) z = absurd (z refl)
+ahead-reached hq (late h l) z = absurd (z refl)
+ahead-reached {lo} {q} hq (between h b e l vb ve) z = value-reached lo q (natAbs lo) b hq vb z
+
+turned-≡ : (a z b w : ℤ) → a *ℤ negℤ z ≡ b *ℤ negℤ w → a *ℤ z ≡ b *ℤ w
+turned-≡ a z b w e =
+    let ρ = a ∷ z ∷ b ∷ w ∷ [] in
+    ≡lin ρ (search reps depth 12) tt (omega (arith, lin≡ ρ (search reps depth 12) tt e))
+
+windowed-reached : {lo hi w : ℤ} {T : ℕ} {s : Span} → Windowed lo hi T w s → begin s .n ≢ 0 → Reaches lo w s ⊎ Reaches hi w s
+windowed-reached (forth q hq a) z = inl (ahead-reached hq a z)
+windowed-reached {hi = hi} {s = s} (back k a) z = inr (turned-≡ (pos (begin s .d)) hi (pos (begin s .n)) (negsuc k) (ahead-reached (omega arith) a z))
+windowed-reached (above l) z = absurd (z refl)
+windowed-reached (below l) z = absurd (z refl)
+windowed-reached (always l h) z = absurd (z refl)
+
+pub window-reached : (lo hi w : ℤ) (T : ℕ) → begin (window lo hi w T) .n ≢ 0
+    → (pos (begin (window lo hi w T) .d) *ℤ lo ≡ pos (begin (window lo hi w T) .n) *ℤ w) ⊎ (pos (begin (window lo hi w T) .d) *ℤ hi ≡ pos (begin (window lo hi w T) .n) *ℤ w)
+window-reached lo hi w T = windowed-reached (windowed lo hi w T)
 
 -- both fit four bytes
 abbrev pub ShortSpan : Span → Type 0

@@ -1,0 +1,79 @@
+-- What is written of an answer and of a move, by the outcome of the tests: room for the line, and a move that is not refused.
+use mathlib.Core.Path.{_≡_, sym, ap, subst, _∙_}
+use mathlib.Core.Logic.{_≢_}
+use mathlib.Core.List.{List}
+use Prim.Native.Nat.{ℕ, _≤_, _<_}
+use native.Mathlib.Decide.{ℕ-discrete}
+use native.Mathlib.Omega.{arith}
+use lib.IntN.{ℤ}
+use lib.ListN.{length}
+use borrow.Author.Tests.{lt-ltb, le-ltb, eq-eqb, ne-eqb}
+use Rattle.plane.specs.declared.Corner.{Corner}
+use Rattle.outline.proofs.Ranges.{counted-yes}
+use Rattle.verdict.specs.Move.{moveOfLists}
+use Rattle.verdict.specs.HeldMove.{Fit, moveHeld, heldMove}
+use Rattle.verdict.specs.Refusal.{refusalOfLists}
+use Rattle.verdict.specs.Readings.{readingOfLists}
+use Rattle.verdict.specs.declared.Answer.{Answer}
+use Rattle.verdict.specs.declared.Reading.{Reading}
+use Rattle.verdict.proofs.Accepted.{accepted-yes}
+use Rattle.verdict.proofs.Listed.{reading-none, reading-some, lists-accepted}
+use Rattle.frame.specs.MoveFrame.{moveFrame, moveLine}
+use Rattle.frame.specs.AnswerFrame.{answerLine}
+use Rattle.frame.proofs.FrameMove.{moveFrame-length}
+use Rattle.frame.proofs.Says.{held-accepted}
+use Rattle.checker.specs.Entries.{written, over, refusalIn, spoken, spokenOut, writtenMove, writtenMoveOut}
+
+-- ---- an answer
+module _ (r : Answer) (out : List ℕ) where
+  pub spoken-narrow : length out < 45 → (written 1 0 ≡ spoken r (length out)) × (out ≡ spokenOut r out)
+  unfolding spoken spokenOut
+  spoken-narrow h = let t = lt-ltb (length out) 45 h in (sym (rw t), sym (rw t))
+
+  pub spoken-wide : 45 ≤ length out → (written (refusalIn r) (length (answerLine r)) ≡ spoken r (length out)) × (over (answerLine r) out ≡ spokenOut r out)
+  unfolding spoken spokenOut
+  spoken-wide h = let t = le-ltb (length out) 45 h in (sym (rw t), sym (rw t))
+
+-- ---- a move handed in as lists
+module _ (xs ys : List ℤ) (va vb : Corner) (T : ℤ) where
+  module _ (out : List ℕ) where
+    pub move-narrow : length out < 283 → (written 1 0 ≡ writtenMove xs ys va vb T (length out)) × (out ≡ writtenMoveOut xs ys va vb T out)
+    unfolding writtenMove writtenMoveOut
+    move-narrow h = let t = lt-ltb (length out) 283 h in (sym (rw t), sym (rw t))
+
+    pub move-refused : 283 ≤ length out → refusalOfLists xs ys va vb T ≢ 0 →
+        (written (refusalOfLists xs ys va vb T) 0 ≡ writtenMove xs ys va vb T (length out)) × (out ≡ writtenMoveOut xs ys va vb T out)
+    unfolding writtenMove writtenMoveOut
+    move-refused h n = let t = le-ltb (length out) 283 h in let u = ne-eqb (refusalOfLists xs ys va vb T) 0 n in (sym (rw (t, u)), sym (rw (t, u)))
+
+    pub move-written : 283 ≤ length out → refusalOfLists xs ys va vb T ≡ 0 →
+        (written 0 (length (moveLine (moveOfLists xs ys va vb T))) ≡ writtenMove xs ys va vb T (length out)) × (over (moveLine (moveOfLists xs ys va vb T)) out ≡ writtenMoveOut xs ys va vb T out)
+    unfolding writtenMove writtenMoveOut
+    move-written h e = let t = le-ltb (length out) 283 h in let u = eq-eqb (refusalOfLists xs ys va vb T) 0 e in (sym (rw (t, u)), sym (rw (t, u)))
+
+  module _ (r : Reading) (is : r ≡ readingOfLists xs ys va vb T) where
+    pub read-refusal : r .refusal ≡ refusalOfLists xs ys va vb T
+    read-refusal = ap (λ x. x .refusal) is ∙ go (ℕ-discrete (refusalOfLists xs ys va vb T) 0)
+      where
+        go : Dec (refusalOfLists xs ys va vb T ≡ 0) → readingOfLists xs ys va vb T .refusal ≡ refusalOfLists xs ys va vb T
+        go (yes e) = ap (λ x. x .refusal) (reading-none _ (moveOfLists xs ys va vb T) e) ∙ sym e
+        go (no n) = ap (λ x. x .refusal) (reading-some _ (moveOfLists xs ys va vb T) n)
+
+    module _ (none : r .refusal ≡ 0) where
+      lists-none : refusalOfLists xs ys va vb T ≡ 0
+      lists-none = sym read-refusal ∙ none
+
+      held-is : r .held ≡ heldMove (moveOfLists xs ys va vb T)
+      held-is = ap (λ x. x .held) (is ∙ reading-none _ (moveOfLists xs ys va vb T) lists-none)
+
+      pub read-fit : Fit (r .held)
+      read-fit = subst Fit (sym held-is) (held-accepted (moveOfLists xs ys va vb T) (lists-accepted xs ys va vb T lists-none) .0)
+
+      pub read-move : moveHeld (r .held) ≡ moveOfLists xs ys va vb T
+      read-move = ap moveHeld held-is ∙ held-accepted (moveOfLists xs ys va vb T) (lists-accepted xs ys va vb T lists-none) .1
+
+      -- 13 bytes, and 4 for each of at most 32 corners
+      pub read-short : length (moveFrame (moveHeld (r .held))) ≤ 141
+      read-short =
+          let a = accepted-yes (moveOfLists xs ys va vb T) (lists-accepted xs ys va vb T lists-none) in
+          rw read-move (omega (arith, moveFrame-length (moveOfLists xs ys va vb T), counted-yes _ (a .counted-a), counted-yes _ (a .counted-b)))

@@ -1,0 +1,81 @@
+-- The tests are the definition's own; a move that is not refused has a frame of at most 141 bytes, whose line is put.
+use mathlib.Core.Path.{_≡_, sym, _∙_, ap, subst}
+use native.Mathlib.Omega.{arith}
+use mir.Facts.{toZ-ofZ}
+use borrow.Author.Needs.{needs}
+use Rattle.verdict.specs.Move.{moveOfLists}
+use Rattle.verdict.specs.HeldMove.{moveHeld}
+use Rattle.verdict.specs.Readings.{readingOfLists}
+use Rattle.frame.specs.MoveFrame.{moveFrame, moveLine}
+use Rattle.frame.specs.Framed.{framed, Whole}
+use Rattle.frame.proofs.Pushing.{framed-whole}
+use Rattle.frame.proofs.Storing.{line-count, line-stored}
+use Rattle.checker.specs.Entries.{written}
+use Rattle.checker.proofs.Writing.{move-narrow, move-refused, move-written, read-refusal, read-fit, read-move, read-short}
+use Rattle.checker.proofs.write_move.Statement.{statement}
+use Rattle.checker.proofs.write_move.Tie as tie
+use Rattle.checker.proofs.write_move.Reads as reads
+use Rattle.checker.proofs.write_move.Lts as lts
+use Rattle.frame.proofs.writer.move_frame.Reads as move-frame-reads
+use Rattle.frame.proofs.writer.put_line.Reads as put-line-reads
+use Rattle.verdict.proofs.lists.read_lists.Reads as read-lists-reads
+
+-- what was read, with the limit as it was handed in
+the-reading : (c : lts.After-read-lists (read-lists-reads.Asked, read-lists-reads.Learnt, move-frame-reads.Asked, move-frame-reads.Learnt, put-line-reads.Asked, put-line-reads.Learnt) reads.Pre reads.Post) → c .read-lists .result ≡ readingOfLists (c .before .before .before .args .a .now) (c .before .before .before .args .b .now) (c .before .before .before .args .va) (c .before .before .before .args .vb) (c .before .before .before .args .limit)
+the-reading c =
+    let s = c .before .before .before in
+    c .read-lists .ensures ∙ ap (readingOfLists (s .args .a .now) (s .args .b .now) (s .args .va) (s .args .vb)) (toZ-ofZ (s .fits .limit))
+
+returns : tie.Need-returns
+returns c = let s = c .before .before .args in move-narrow (s .a .now) (s .b .now) (s .va) (s .vb) (s .limit) (s .out .now) (c .if1 .taken)
+
+read-lists-requires : tie.Need-read-lists-requires
+read-lists-requires c κs = search needs
+
+returns-2 : tie.Need-returns-2
+returns-2 c =
+    let r = c .before .before in
+    let s = r .before .before .before .args in
+    let number = read-refusal _ _ _ _ _ _ (the-reading r) in
+    let is = move-refused (s .a .now) (s .b .now) (s .va) (s .vb) (s .limit) (s .out .now) (r .before .if1 .left) (λ e. c .if2 .taken (number ∙ e)) in
+    (ap (λ n. written n 0) number ∙ is .0, is .1)
+
+move-frame-requires : tie.Need-move-frame-requires
+move-frame-requires c κs = read-fit _ _ _ _ _ _ (the-reading (c .before .before .before)) (c .before .if2 .left)
+
+put-line-requires : tie.Need-put-line-requires
+put-line-requires c κs =
+    let e = c .before .before .before in
+    let short = read-short _ _ _ _ _ _ (the-reading (e .before .before)) (e .if2 .left) in
+    let bs = moveFrame (moveHeld (e .before .before .read-lists .result .held)) in
+    let is = c .before .move-frame .ensures in
+    (subst Whole (sym is) (framed-whole bs short), omega (arith, ap (λ f. f .count) is, e .before .before .before .if1 .left))
+
+same-length : tie.Need-same-length
+same-length c = search needs
+
+returns-3 : tie.Need-returns-3
+unfolding moveLine
+returns-3 c =
+    let f = c .before .before .before .before in
+    let e = f .before .before in
+    let r = e .before .before in
+    let s = r .before .before .before .args in
+    let m = moveOfLists (s .a .now) (s .b .now) (s .va) (s .vb) (s .limit) in
+    let none = e .if2 .left in
+    let is = move-written (s .a .now) (s .b .now) (s .va) (s .vb) (s .limit) (s .out .now) (r .before .if1 .left) (sym (read-refusal _ _ _ _ _ _ (the-reading r)) ∙ none) in
+    let frame = f .move-frame .ensures ∙ ap (λ x. framed (moveFrame x)) (read-move _ _ _ _ _ _ (the-reading r) none) in
+    let put = c .before .before .put-line .ensures in
+    (ap (written 0) (put .0 ∙ line-count (moveFrame m) _ frame) ∙ is .0, put .1 ∙ line-stored (moveFrame m) _ frame (s .out .now) ∙ is .1)
+
+pub write-move-spec : {M : Type 1} → statement M
+write-move-spec =
+    tie.close
+    (tie.spec
+    returns
+    read-lists-requires
+    returns-2
+    move-frame-requires
+    put-line-requires
+    same-length
+    returns-3)

@@ -1,0 +1,29 @@
+-- What was read is answered: the reading of a line is that of its move beside its refusal.
+use mathlib.Core.Path.{sym, _∙_, ap, subst}
+use Rattle.verdict.specs.HeldMove.{moveHeld}
+use Rattle.verdict.specs.Answer.{answerUnless}
+use Rattle.verdict.specs.Readings.{Readable}
+use Rattle.verdict.proofs.Listed.{reading-readable, reading-answer}
+use borrow.Author.Needs.{needs}
+use Rattle.frame.specs.Reading.{answerOfLine}
+use Rattle.frame.proofs.RoundTrip.{accepted}
+use Rattle.frame.proofs.Answering.{reading-unless}
+use Rattle.frame.proofs.answer_of_line.Statement.{statement}
+use Rattle.frame.proofs.answer_of_line.Tie as tie
+
+read-requires : tie.Need-read-requires
+read-requires c κs = search needs
+
+answer-of-requires : tie.Need-answer-of-requires
+answer-of-requires c κs =
+    let l = c .before .before .args .line .now in
+    subst Readable (sym (c .read .ensures ∙ reading-unless l)) (reading-readable _ _ (accepted l))
+
+returns : tie.Need-returns
+unfolding answerOfLine
+returns c =
+    let l = c .before .before .before .args .line .now in
+    c .answer-of .ensures ∙ ap (λ r. answerUnless (r .refusal) (moveHeld (r .held))) (c .before .read .ensures ∙ reading-unless l) ∙ reading-answer _ _ (accepted l)
+
+pub answer-of-line-spec : {M : Type 1} → statement M
+answer-of-line-spec = tie.close (tie.spec read-requires answer-of-requires returns)

@@ -1,0 +1,19 @@
+-- A line begun, as it is held between two parts of an input: the first 283 bytes of it, and their count.
+--   begunWith l    what holds the bytes l
+--   begunBytes b   the bytes that b holds
+--   Holds b        b holds at most 283 bytes, and the unused ones are zero
+use mathlib.Core.Path.{_≡_}
+use mathlib.Core.List.{List, _++_}
+use Prim.Native.Nat.{ℕ, _-_, _≤_}
+use lib.ListN.{length, take, replicate}
+use Rattle.lines.specs.declared.Begun.{Begun}
+
+abbrev pub begunWith : List ℕ → Begun
+begunWith l = record { bytes = l ++ replicate (283 - length l) 0; count = length l }
+
+abbrev pub begunBytes : Begun → List ℕ
+begunBytes b = take (b .count) (b .bytes)
+
+pub record Holds (b : Begun) : Type 0 where
+  pub few : b .count ≤ 283
+  pub is : b ≡ begunWith (begunBytes b)
