@@ -1,5 +1,5 @@
 -- What has been fed so far, and the two steps from there: a piece that the input leaves open, and a piece that a 0a closes.
-use mathlib.Core.Path.{_≡_, refl, sym, _∙_, ap, ap₂}
+use mathlib.Core.Path.{subst, _≡_, refl, sym, _∙_, ap, ap₂}
 use mathlib.Core.Bool.{Bool, true, false, cond}
 use mathlib.Core.List.{List, [], _∷_, _++_, flatMap, append-assoc, append-nil}
 use Prim.Native.Nat.{ℕ, suc, _+_, _-_, _≤_, _<_}
@@ -16,6 +16,7 @@ use Rattle.lines.specs.Taking.{lineOf, lineAt}
 use Rattle.lines.specs.Chunks.{finished, unfinished}
 use Rattle.lines.specs.Stream.{answersTo, kept}
 use Rattle.lines.specs.Begun.{begunWith, begunBytes, Holds}
+use Rattle.lines.specs.declared.Fed.{Fed}
 use Rattle.lines.specs.Feeding.{Feeds}
 use Rattle.lines.specs.declared.Begun.{Begun}
 use Rattle.lines.proofs.LineParts.{take-line, line-within}
@@ -182,3 +183,14 @@ module _ {u s out : List ℕ} {at written : ℕ} {b : Begun} {out′ : List ℕ}
             fits = room;
             output = ap₂ (λ l m. l ++ (x ++ m)) front none ∙ ap (λ l. w ++ l) (append-nil x ∙ rest) ∙ sym (append-assoc w r (drop (written + n) out)) ∙ ap (λ l. l ++ drop (written + n) out) (sym answered);
           }
+
+-- ---- what a caller keeps of a part that was fed
+pub feeds-holds : {u s out out′ : List ℕ} {r : Fed} → Feeds u s out r out′ → Holds (r .begun)
+feeds-holds {u} {s} {r = r} f = subst Holds (sym (f .begun)) (kept-holds (unfinished u (take (r .taken) s)))
+
+pub feeds-length : {u s out out′ : List ℕ} {r : Fed} → Feeds u s out r out′ → length out′ ≡ length out
+feeds-length {u} {s} {out} {r = r} f =
+    let written = f .written in
+    let fits = f .fits in
+    let a = answersTo u (take (r .taken) s) in
+    omega (arith, ap length (f .output), length-append a (drop (r .written) out), length-drop (r .written) out)
