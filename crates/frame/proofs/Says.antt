@@ -34,7 +34,7 @@ use Rattle.verdict.specs.declared.Answer.the-variants.{ClearByOne, ClearByTwo, 
 use Rattle.verdict.proofs.Accepted.{accepted-yes}
 use Rattle.verdict.proofs.Refusing.{fit-yes}
 use Rattle.verdict.proofs.Listed.{held-move, lists-accepted}
-use Rattle.verdict.proofs.Windows.{Good, ShortSpan, window-short}
+use Rattle.verdict.proofs.Windows.{ShortSpan, window-short}
 use Rattle.verdict.proofs.SpanList.{spans-length, spans-at}
 use Rattle.verdict.proofs.Firsts.{AllFull, first-at, last-at}
 use Rattle.verdict.proofs.Emptied.{all-full}

@@ -4,7 +4,7 @@
 --   moveOfFrame f    the move whose frame is f; the second outline's bytes start where the first's end
 use mathlib.Core.List.{List, [], _∷_, _++_, flatMap}
 use Prim.Native.Nat.{ℕ, zero, suc, _+_, _*_}
-use lib.IntN.{ℤ, pos, natAbs}
+use lib.IntN.{pos, natAbs}
 use lib.ListN.{length, getD, drop}
 use Rattle.plane.specs.Point.{point}
 use Rattle.plane.specs.declared.Corner.{Corner}

@@ -1,11 +1,11 @@
 -- What an outline held in sixteen places says of its corners: those below the count stand at the same number in the places.
-use mathlib.Core.Path.{_≡_, sym, _∙_, ap, ap₂}
+use mathlib.Core.Path.{_≡_, _∙_, ap, ap₂}
 use mathlib.Core.Bool.{not, _||_}
 use Prim.Native.Nat.{ℕ, _<_}
 use native.Mathlib.Omega.{arith}
 use lib.Dec.{eqb}
 use lib.IntN.{pos}
-use lib.ListN.{length, take}
+use lib.ListN.{length}
 use lib.Signed.{ltZ}
 use lib.Seq.{length-take-le, getD-take}
 use Rattle.whole.specs.Lowest.{lowest, every}

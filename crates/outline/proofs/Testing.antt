@@ -1,7 +1,7 @@
 -- The outline test by its cases: each answer from the outcome of the three tests; and what an outline made from a list is.
 use mathlib.Core.Path.{_≡_, refl, sym, _∙_, ap, subst}
 use mathlib.Core.Bool.{Bool, true, false, not, _&&_, and-eq-true-iff}
-use mathlib.Core.List.{List, _++_}
+use mathlib.Core.List.{List}
 use Prim.Native.Nat.{ℕ, zero, suc, _+_, _-_, _/_, _%_, _≤_, _<_}
 use native.Mathlib.Decide.{decLt}
 use native.Mathlib.Omega.{arith}
@@ -22,7 +22,6 @@ use Rattle.outline.specs.Refusal.{firstThatApplies, counted, placed, ref
 use Rattle.outline.specs.Held.{cornersHeld, held, Kept, Held}
 use Rattle.outline.specs.Tested.{tested, refusedAs}
 use Rattle.outline.specs.declared.Outline.{Outline}
-use Rattle.outline.specs.declared.Tested.{Tested}
 use Rattle.outline.proofs.Ranges.{counted-yes, placed-yes}
 use Rattle.outline.proofs.Pairs.{corners-length}
 

@@ -1,5 +1,4 @@
 -- A common point lies in the interval of each list in every direction: so the intervals share a value.
--- Assumes nothing.
 use mathlib.Core.Path.{_≡_, sym}
 use mathlib.Core.Bool.{true}
 use mathlib.Core.List.{List}

@@ -1,6 +1,5 @@
 -- Two wide outlines at the time n/d have a common point where their sides share values,
 -- each side in the direction that it has in the outline as given: moving changes no direction.
--- Assumes nothing.
 use mathlib.Core.Path.{_≡_, _∙_, ap}
 use mathlib.Core.Bool.{true}
 use mathlib.Core.List.{List}

@@ -1,5 +1,4 @@
 -- Leaving an outline: going from a point inside to a corner c outside, one leaves at the edge that is reached first.
--- Assumes nothing.
 use mathlib.Core.Path.{_≡_, _∙_}
 use mathlib.Core.Logic.{_⊎_, inl, inr, ⊎-elim}
 use mathlib.Core.List.{List, [], _∷_}

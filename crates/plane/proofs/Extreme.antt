@@ -1,7 +1,6 @@
 -- Of finitely many vectors, either some sum of them with whole multiplicities is zero, or one of them is extreme:
 -- no other stands to its right, and none on its ray is nearer (Gordan's theorem in the plane).
 -- The sums are given as any property K that holds of the vectors and of the sum of two that have it.
--- Assumes nothing.
 use mathlib.Core.Path.{_≡_, refl, ap, subst}
 use mathlib.Core.Logic.{_⊎_, inl, inr, ⊎-elim}
 use mathlib.Core.List.{List, [], _∷_}

@@ -1,6 +1,5 @@
 -- The points s/t between the corners of a list, told by bounds: whatever bounds the corners' projections from below bounds the point's.
 -- This says no weights, so that sums of such points are at hand; the weight t is an integer above zero.
--- Assumes nothing.
 use mathlib.Core.Path.{_≡_}
 use mathlib.Core.Bool.{true}
 use mathlib.Core.List.{List, [], _∷_}

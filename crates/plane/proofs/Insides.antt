@@ -1,7 +1,6 @@
 -- The points of a wide outline: a point lies to the right of no edge exactly where it is a mean of the corners,
 -- that is, where it has a common point with the outline as a list of one corner.
 -- A point with fractional coordinates is s/t: it lies in an outline where s lies in the outline times t.
--- Assumes nothing.
 use mathlib.Core.Path.{_≡_, sym, _∙_, ap, ap₂, subst}
 use mathlib.Core.Bool.{Bool, true}
 use mathlib.Core.Logic.{_↔_, inl, inr, ⊎-elim}

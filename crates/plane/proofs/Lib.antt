@@ -12,7 +12,6 @@ pub mod Moved
 pub mod CommonAt
 pub mod Insides
 pub mod Segments
-pub mod Showings
 pub mod Exit
 pub mod Rim
 pub mod Shown

@@ -1,5 +1,4 @@
 -- Members of a list, taken all together, and the best member of the images of a list.
--- Assumes nothing.
 use mathlib.Core.Path.{_≡_, refl, _∙_, ap₂}
 use mathlib.Core.Bool.{Bool, true, false, cond}
 use mathlib.Core.Logic.{_⊎_, inl, inr, ⊎-elim}

@@ -1,7 +1,6 @@
 -- What moving does. A moved outline has the outline's edges, times d, so it is wide where the outline is.
 -- Its interval in a direction is the outline's, times d and moved by the velocity's projection, times n.
 -- So whether two moved outlines share a value is two inequalities between whole numbers.
--- Assumes nothing.
 use mathlib.Core.Path.{_≡_, refl, sym, _∙_, ap, ap₂}
 use mathlib.Core.Bool.{Bool, true, false, not, _&&_}
 use mathlib.Core.Logic.{_↔_}

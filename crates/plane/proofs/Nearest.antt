@@ -1,6 +1,5 @@
 -- Two lists of corners have a common point, or there are a nearest corner a of A and b of B:
 -- among all the steps from a corner of A to one of B, the step from a to b is extreme. For a sum of such steps that is zero is a common point.
--- Assumes nothing.
 use mathlib.Core.Path.{_≡_, refl, sym, _∙_, ap, ap₂}
 use mathlib.Core.Logic.{_⊎_, inl, inr, ⊎-elim}
 use mathlib.Core.List.{List, [], _∷_, _++_, map}

@@ -9,7 +9,7 @@ use lib.ListN.{length, take, getD, length-map}
 use lib.Signed.{ltZ}
 use Rattle.whole.specs.Best.{betterOf, best}
 use Rattle.whole.proofs.Members.{best-take}
-use Rattle.plane.specs.Point.{origin, dot}
+use Rattle.plane.specs.Point.{dot}
 use Rattle.plane.specs.Edges.{corner}
 use Rattle.plane.specs.Interval.{low, high}
 use Rattle.plane.specs.declared.Corner.{Corner}

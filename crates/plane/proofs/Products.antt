@@ -1,6 +1,5 @@
 -- Identities of the two products of steps. Each is an equation between polynomials in the coordinates;
 -- the other files take the products as they stand and argue from these equations alone.
--- Assumes nothing.
 use mathlib.Core.Path.{_≡_, refl}
 use mathlib.Core.List.{List, [], _∷_}
 use lib.IntN.{ℤ, pos, _+ℤ_, _-ℤ_, _*ℤ_, negℤ}

@@ -1,6 +1,5 @@
 -- A point of a wide outline on the line of an edge lies on some edge. One walks along the line from the edge's start to the point, edge by edge:
 -- while a corner on the line lies behind the point, the edge out of it goes on along the line, and while it lies ahead, the edge into it does.
--- Assumes nothing.
 use mathlib.Core.Path.{_≡_, refl, _∙_, ap}
 use mathlib.Core.Logic.{inl, inr, ⊎-elim}
 use mathlib.Core.List.{List, [], _∷_}

@@ -1,7 +1,6 @@
 -- Two segments share a point exactly where their intervals share a value in four directions: of the two axes and of the sides of the two segments.
 -- A segment is a list of two corners, which may be one point. At nearest ends a and b the side of a segment separates, as for outlines;
 -- where neither segment turns off the line through a and b, an axis does.
--- Assumes nothing.
 use mathlib.Core.Path.{_≡_, refl, _∙_, ap₂}
 use mathlib.Core.Bool.{Bool, true, _&&_, and-eq-true-iff}
 use mathlib.Core.Logic.{_↔_, _⊎_, inl, inr, ⊎-elim}

@@ -2,7 +2,6 @@
 -- Let a and b be nearest corners, r the step from a to b, e the edge into a and f the edge into b. The side of e faces b and that of f faces a.
 -- Where f does not turn to the right of e, all of B lies beyond the side of e; otherwise all of A lies beyond the side of f.
 -- These are one lemma, with A and B exchanged.
--- Assumes nothing.
 use mathlib.Core.Path.{_≡_, sym, subst}
 use mathlib.Core.Bool.{true}
 use mathlib.Core.Logic.{_⊎_, inl, inr, ⊎-elim}

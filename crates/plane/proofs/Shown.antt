@@ -1,7 +1,6 @@
 -- A common point of two wide outlines is shown: a corner of one lies inside the other, or two edges share a point.
 -- From a point in both one goes towards a corner of B outside A and leaves A on an edge i, still in B; from there one goes along edge i to its start, which is outside B,
 -- and leaves B on an edge j: the two edges share that point.
--- Assumes nothing.
 use mathlib.Core.Path.{_≡_, refl}
 use mathlib.Core.Bool.{true}
 use mathlib.Core.Logic.{_⊎_, inl, inr, ⊎-elim}

@@ -1,7 +1,6 @@
 -- Where the intervals of two wide outlines share exactly one value in some direction D, a common point is shown by a corner.
 -- All corners of A that count lie on one line square to D, and so do those of B. Along that line the common point comes no sooner than the first such corner of A and the first of B;
 -- so the later of these two lies between the other and the common point, and is inside the other outline.
--- Assumes nothing.
 use mathlib.Core.Path.{_≡_, refl, sym, _∙_, ap, ap₂, subst}
 use mathlib.Core.Bool.{true}
 use mathlib.Core.Logic.{_⊎_, inl, inr, ⊎-elim}

@@ -1,6 +1,5 @@
 -- Weights on the corners of a list: all weight on one corner, sums of weights,
 -- and the bound that a weighted sum takes from the corners.
--- Assumes nothing.
 use mathlib.Core.Path.{_≡_, refl, sym, _∙_, ap, ap₂}
 use mathlib.Core.Logic.{inl, inr}
 use mathlib.Core.List.{List, [], _∷_}

@@ -1,6 +1,5 @@
 -- Wide outlines: no corner lies to the right of an edge, and each edge has a corner to its left.
 -- Every corner is the end of an edge, which is all that is used of the order of the corners.
--- Assumes nothing.
 use mathlib.Core.Path.{_≡_, refl, sym, _∙_, ap, subst}
 use mathlib.Core.Bool.{Bool, true, false, cond}
 use mathlib.Core.Logic.{⊎-elim}

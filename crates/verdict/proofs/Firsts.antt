@@ -136,12 +136,6 @@ module _ (l : List Span) (a : AllFull l) where
   pub last-reduced : Reduced (lastOf l)
   last-reduced = top-reduced ends
 
-  pub first-bound : (k : ℕ) → k < length l → before (firstOf l) (begin (spanAt l k)) ≡ false
-  first-bound = top-bound begins
-
-  pub last-bound : (k : ℕ) → k < length l → before (end (spanAt l k)) (lastOf l) ≡ false
-  last-bound = top-bound ends
-
   pub first-is : (t : Time) (i : ℕ) → i < length l → t ≡ begin (spanAt l i) → ((j : ℕ) → j < length l → before t (begin (spanAt l j)) ≡ false) → t ≡ firstOf l
   first-is = top-is begins
 

@@ -41,7 +41,3 @@ spans-length m = spansTo-length m (sideCount m)
 pub spans-at : (m : Move) (k : ℕ) → k < sideCount m → getD (spans m) k Empty ≡ span m k
 unfolding spans
 spans-at m k h = spansTo-at m (sideCount m) k h
-
-pub spans-take : (m : Move) (k : ℕ) → k ≤ sideCount m → spansTo m k ≡ take k (spans m)
-unfolding spans
-spans-take m k h = spansTo-take m (sideCount m) k h

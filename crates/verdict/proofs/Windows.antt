@@ -165,12 +165,6 @@ windowed-is {lo} {hi} {T} (always l h) n d hd hn =
 pub window-is : (lo hi w : ℤ) (T n d : ℕ) → 1 ≤ d → n ≤ T * d → InSpan (time n d) (window lo hi w T) ↔ Covers lo hi w n d
 window-is lo hi w T = windowed-is (windowed lo hi w T)
 
-pub window-in : (lo hi w : ℤ) (T n d : ℕ) → 1 ≤ d → n ≤ T * d → (pos d *ℤ lo) ≤ℤ (pos n *ℤ w) → (pos n *ℤ w) ≤ℤ (pos d *ℤ hi) → InSpan (time n d) (window lo hi w T)
-window-in lo hi w T n d hd hn l h = window-is lo hi w T n d hd hn .1 (l, h)
-
-pub in-window : (lo hi w : ℤ) (T n d : ℕ) → 1 ≤ d → n ≤ T * d → InSpan (time n d) (window lo hi w T) → ((pos d *ℤ lo) ≤ℤ (pos n *ℤ w)) × ((pos n *ℤ w) ≤ℤ (pos d *ℤ hi))
-in-window lo hi w T n d hd hn = window-is lo hi w T n d hd hn .0
-
 -- ---- its begin and its end: in lowest terms, no later than T, and in order
 pub record Bounds (T : ℕ) (b e : Time) : Type 0 where
   pub begin-reduced : Reduced b

@@ -1,7 +1,7 @@
 -- The twelve cases of document 01 that are marked P, as one table of moves with their answers. A stands still.
 use mathlib.Core.List.{List, [], _∷_}
 use Prim.Native.Nat.{ℕ, _+_}
-use lib.IntN.{ℤ, pos, negℤ, _+ℤ_}
+use lib.IntN.{ℤ, pos, negℤ}
 use Rattle.whole.specs.Time.{time}
 use Rattle.plane.specs.Point.{point, origin}
 use Rattle.plane.specs.declared.Corner.{Corner}

@@ -11,7 +11,6 @@ use Prim.Native.Nat.{ℕ, _*_, _≤_, _<_}
 use lib.IntN.{natAbs}
 use lib.ListN.{length, getD}
 use Rattle.whole.specs.Time.{time, before, Reduced}
-use Rattle.whole.specs.declared.Time.{Time}
 use Rattle.plane.specs.Motion.{movedAll}
 use Rattle.plane.specs.Edges.{next}
 use Rattle.plane.specs.Apart.{Apart}

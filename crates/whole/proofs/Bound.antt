@@ -1,5 +1,4 @@
 -- Sizes of integers: of sums, products and negatives, and of what is read back from bits. `search bounds` finds a bound on the size of a term; from it `fits` shows that the number fits a signed width, and `within` that it lies within k.
--- Assumes nothing.
 use mathlib.Core.Path.{_≡_, refl}
 use Prim.Native.Nat.{ℕ, zero, suc, _+_, _*_, _-_, _^_, _≤_, _<_}
 use native.Mathlib.Nat.{mul-le-mul, add-le-add, le-refl, le-trans, le-of-eq}

@@ -1,5 +1,4 @@
 -- The laws of the greatest common divisor. Any bound on the steps above the second number gives the same, so `gcd` has the two equations of Euclid's method; the rest follows by induction along its steps.
--- Assumes nothing.
 use mathlib.Core.Path.{_≡_, refl, _∙_, ap}
 use mathlib.Core.Logic.{∥∥₁-elim}
 use Prim.Native.Nat.{ℕ, zero, suc, _*_, _%_, _≤_, _<_, _∣_}

@@ -1,5 +1,4 @@
 -- Times as fractions: `before` is a strict order on the values of proper times, so the least and the greatest of a list are bounds; `reduced` keeps the value, and each value has one time in lowest terms.
--- Assumes nothing.
 use mathlib.Core.Path.{_≡_, refl, sym, _∙_, ap, ap₂}
 use mathlib.Core.Bool.{Bool, true, false}
 use mathlib.Core.List.{List, _∷_}

@@ -1,14 +1,13 @@
 -- The laws of `lowest`, `some` and `every`. The lowest index is told by four facts, which only one number has: so a law that names it checks those facts.
--- Assumes nothing.
 use mathlib.Core.Path.{_≡_, refl, sym, _∙_, ap}
 use mathlib.Core.Bool.{Bool, true, false, not, cond, false≢true}
 use mathlib.Core.Logic.{⊎-elim}
 use Prim.Native.Nat.{ℕ, zero, suc, _+_, _≤_, _<_}
 use native.Mathlib.Nat.{eq-or-lt-of-le}
 use native.Mathlib.Omega.{arith}
-use lib.Dec.{ltb, eqb}
-use borrow.Author.Tests.{ltb-true, ltb-false, eqb-true, eqb-false, lt-ltb, le-ltb, eq-eqb, ne-eqb, not-true, not-false}
-use Rattle.whole.specs.Lowest.{lowestFrom, lowest, some, every}
+use lib.Dec.{eqb}
+use borrow.Author.Tests.{eqb-true, eqb-false, eq-eqb, ne-eqb, not-true, not-false}
+use Rattle.whole.specs.Lowest.{lowestFrom, lowest, every}
 
 -- k is the lowest index from i on and below n at which f passes, or n
 pub record Lowest (f : ℕ → Bool) (i n k : ℕ) : Type 0 where
@@ -75,28 +74,6 @@ lowest-least f n i e = omega (arith, higher)
     higher h = false≢true (sym (lowest-below f n i h) ∙ e)
 
 -- ---- some index
-pub some-yes : (f : ℕ → Bool) (n : ℕ) → some f n ≡ true → (i : ℕ) × (i < n) × (f i ≡ true)
-unfolding some
-some-yes f n e =
-    let h = ltb-true (lowest f n) n e in
-    (lowest f n, h, lowest-yes f n h)
-
-pub some-no : (f : ℕ → Bool) (n : ℕ) → some f n ≡ false → (i : ℕ) → i < n → f i ≡ false
-unfolding some
-some-no f n e i h = lowest-below f n i (omega (arith, ltb-false (lowest f n) n e))
-
-pub some-true : (f : ℕ → Bool) (n i : ℕ) → i < n → f i ≡ true → some f n ≡ true
-unfolding some
-some-true f n i h e = lt-ltb (lowest f n) n (omega (arith, lowest-least f n i e))
-
-pub some-false : (f : ℕ → Bool) (n : ℕ) → ((i : ℕ) → i < n → f i ≡ false) → some f n ≡ false
-unfolding some
-some-false f n b = le-ltb (lowest f n) n (omega (arith, lowest-none f n b))
-
-pub some-cong : (f g : ℕ → Bool) (n : ℕ) → ((i : ℕ) → i < n → f i ≡ g i) → some f n ≡ some g n
-unfolding some
-some-cong f g n e = ap (λ k. ltb k n) (lowest-cong f g n e)
-
 -- ---- every index
 pub every-yes : (f : ℕ → Bool) (n : ℕ) → every f n ≡ true → (i : ℕ) → i < n → f i ≡ true
 unfolding every

@@ -1,5 +1,4 @@
 -- Orders and equations of integers for `omega`. Two ways in: `omega ints` reads and proves orders, equations, tests and `Within` of terms that it takes whole, and `lin≤`, `≤lin` and their like read a polynomial, each monomial m by its parts P m and N m.
--- Assumes nothing.
 use mathlib.Core.Path.{_≡_, refl, sym, _∙_, ap, ap₂, subst}
 use mathlib.Core.Bool.{Bool, true, false, not}
 use mathlib.Core.List.{List, [], _∷_}

@@ -1,5 +1,4 @@
 -- A value that code computes, read in one pass: `search vals` finds its expression and a bound on its size together, so a number that went through bits is read as itself where its bound shows that it fits.
--- Assumes nothing.
 use mathlib.Core.List.{List}
 use Prim.Native.Nat.{ℕ}
 use lib.IntN.{ℤ, pos, negsuc, _+ℤ_, _*ℤ_, negℤ}

@@ -1,5 +1,4 @@
 -- Members of a list, by their places and through `map` and `++`, and the best member: it is one of them, and none is better.
--- Assumes nothing.
 use mathlib.Core.Path.{_≡_, refl, ap}
 use mathlib.Core.Bool.{Bool, true, false, cond}
 use mathlib.Core.Logic.{_⊎_, inl, inr, ⊎-elim}

@@ -1,5 +1,4 @@
 -- The order of the integers: transitivity, sums, products, cancellation of a positive factor, fractions, and the cases.
--- Assumes nothing.
 use mathlib.Core.Path.{_≡_, refl}
 use mathlib.Core.Logic.{_⊎_, inl, inr, ⊎-elim}
 use mathlib.Core.List.{[], _∷_}
@@ -9,7 +8,7 @@ use mathlib.Core.Bool.{Bool, true, false}
 use Prim.Native.Nat.{zero, suc, _*_}
 use native.Mathlib.Omega.{arith}
 use lib.Dec.{le→leb, lt→ltb}
-use lib.IntN.{ℤ, pos, negsuc, _+ℤ_, _*ℤ_, _-ℤ_}
+use lib.IntN.{ℤ, pos, negsuc, _*ℤ_, _-ℤ_}
 use lib.Signed.{_≤ℤ_, _<ℤ_, leZ, clashℤ}
 use Rattle.whole.proofs.Parts.{diff, split}
 
@@ -22,9 +21,6 @@ pub ≤-antisym : (a b : ℤ) → a ≤ℤ b → b ≤ℤ a → a ≡ b
 
 pub <-le : (a b : ℤ) → a <ℤ b → a ≤ℤ b
 <-le a b = rw (split a, split b) (simp diff (omega arith))
-
-pub add-le : (a b c d : ℤ) → a ≤ℤ b → c ≤ℤ d → (a +ℤ c) ≤ℤ (b +ℤ d)
-add-le a b c d = rw (split a, split b, split c, split d) (simp diff (omega arith))
 
 pub sub-nonneg : (a b : ℤ) → pos 0 ≤ℤ (b -ℤ a) → a ≤ℤ b
 sub-nonneg a b = rw (split a, split b) (simp diff (omega arith))
@@ -84,11 +80,3 @@ cancel-< a b c k h = ⊎-elim (λ l. clashℤ h (mul-≤ b a c l (<-le (pos 0) c
 
 pub cancel-≡ : (a b c : ℤ) → pos 0 <ℤ c → a *ℤ c ≡ b *ℤ c → a ≡ b
 cancel-≡ a b c k e = ≤-antisym a b (cancel-≤ a b c k (omega ints)) (cancel-≤ b a c k (omega ints))
-
--- fractions n / d with 0 < d, compared by cross multiplication: the order is transitive
-pub frac-trans : (n d n′ d′ n″ d″ : ℤ) → pos 0 <ℤ d → pos 0 <ℤ d′ → pos 0 <ℤ d″ → (n *ℤ d′) ≤ℤ (n′ *ℤ d) → (n′ *ℤ d″) ≤ℤ (n″ *ℤ d′) → (n *ℤ d″) ≤ℤ (n″ *ℤ d)
-frac-trans n d n′ d′ n″ d″ p p′ p″ h k =
-    let ρ = n ∷ d ∷ n′ ∷ d′ ∷ n″ ∷ d″ ∷ [] in
-    let h₂ = mul-≤ (n *ℤ d′) (n′ *ℤ d) d″ h (<-le (pos 0) d″ p″) in
-    let k₂ = mul-≤ (n′ *ℤ d″) (n″ *ℤ d′) d k (<-le (pos 0) d p) in
-    cancel-≤ (n *ℤ d″) (n″ *ℤ d) d′ p′ (≤lin ρ (search reps depth 9) tt (omega (arith, lin≤ ρ (search reps depth 9) tt h₂, lin≤ ρ (search reps depth 9) tt k₂)))

@@ -1,5 +1,4 @@
 -- Every integer is a difference of two naturals, p ⊖ n. Sums, products and orders of differences are differences and orders of naturals, which `omega` reads.
--- Assumes nothing.
 use mathlib.Core.Path.{_≡_, refl, ap}
 use mathlib.Core.Bool.{Bool, true, false, not, cond}
 use Prim.Native.Nat.{ℕ, zero, suc, _+_, _*_, _-_, _≤_, _<_}

@@ -1,5 +1,4 @@
 -- Ring equations of integers, by computation: `by-ring`. Each side is read as an expression (`E`), and an expression is brought to a polynomial in Horner's form (`Poly`): `hx q r` is q + x·r, with x the first variable, r over all of them and q over the rest. Two expressions are equal where their difference's polynomial has no coefficient but 0.
--- Assumes nothing.
 use mathlib.Core.Path.{_≡_, refl, sym, _∙_, ap, ap₂}
 use mathlib.Core.Bool.{Bool, true, false, _&&_}
 use mathlib.Core.List.{List, [], _∷_}

@@ -1,5 +1,4 @@
 -- The laws of a commutative ring that `lib.IntN` lacks, each by taking its integers as differences of naturals. `by-ring` of Ring.antt rests on them and does the rest.
--- Assumes nothing.
 use mathlib.Core.Path.{_≡_}
 use native.Mathlib.Omega.{arith}
 use lib.IntN.{ℤ, pos, negsuc, _+ℤ_, _*ℤ_, negℤ, _-ℤ_}

@@ -8,9 +8,6 @@ use lib.ListN.{length, drop, length-drop, drop-of-length-le}
 use Rattle.lines.proofs.LineParts.{line-within, take-line}
 use Rattle.lines.proofs.line_at.Statement.{statement}
 use Rattle.lines.proofs.line_at.Tie as tie
-use Rattle.lines.proofs.line_at.Reads as reads
-use Rattle.lines.proofs.line_at.Lts as lts
-use Rattle.lines.proofs.line_end.Reads as line-end-reads
 
 line-end-requires : tie.Need-line-end-requires
 line-end-requires c κs = search needs

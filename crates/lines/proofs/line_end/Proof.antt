@@ -9,8 +9,6 @@ use Rattle.lines.specs.Taking.{lineOf}
 use Rattle.lines.proofs.LineParts.{line-stop, line-more}
 use Rattle.lines.proofs.line_end.Statement.{statement}
 use Rattle.lines.proofs.line_end.Tie as tie
-use Rattle.lines.proofs.line_end.Reads as reads
-use Rattle.lines.proofs.line_end.Lts as lts
 
 abbrev Inv-loop : tie.InvT-loop
 Inv-loop input at end₀ end = (end ≤ length input) × (end + length (lineOf (drop end input)) ≡ at + length (lineOf (drop at input)))

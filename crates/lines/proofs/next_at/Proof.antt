@@ -1,5 +1,5 @@
 -- Where a byte is left, the next line starts after this one and its 0a, or at the input's end.
-use mathlib.Core.Path.{_≡_, sym, _∙_}
+use mathlib.Core.Path.{_≡_}
 use mathlib.Core.List.{List}
 use Prim.Native.Nat.{ℕ, _+_, _≤_, _<_, min}
 use native.Mathlib.Omega.{arith}
@@ -10,9 +10,6 @@ use Rattle.lines.specs.Taking.{lineAt, nextAt}
 use Rattle.lines.proofs.LineParts.{line-within}
 use Rattle.lines.proofs.next_at.Statement.{statement}
 use Rattle.lines.proofs.next_at.Tie as tie
-use Rattle.lines.proofs.next_at.Reads as reads
-use Rattle.lines.proofs.next_at.Lts as lts
-use Rattle.lines.proofs.line_end.Reads as line-end-reads
 
 next-is : (s : List ℕ) (at n : ℕ) → at < length s → n ≡ min (at + length (lineAt s at) + 1) (length s) → n ≡ nextAt s at
 next-is s at n h e = simp (lt-ltb at (length s) h) e

@@ -12,9 +12,6 @@ use Rattle.outline.specs.Sound.{left}
 use Rattle.outline.specs.Held.{cornersHeld}
 use Rattle.outline.proofs.bad_edge.Statement.{statement}
 use Rattle.outline.proofs.bad_edge.Tie as tie
-use Rattle.outline.proofs.bad_edge.Reads as reads
-use Rattle.outline.proofs.bad_edge.Lts as lts
-use Rattle.outline.proofs.is_edge_sound.Reads as is-edge-sound-reads
 
 abbrev Inv-loop : tie.InvT-loop
 Inv-loop o n i₀ i = (i ≤ n) × ((m : ℕ) → m < i → not (every (left (cornersHeld o) m) n) ≡ false)

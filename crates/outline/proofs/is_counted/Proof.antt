@@ -1,5 +1,5 @@
 -- Half of an even length is from 3 to 16 exactly where the length is from 6 to 32.
-use mathlib.Core.Path.{_≡_, refl, sym, _∙_}
+use mathlib.Core.Path.{_≡_, refl, sym}
 use mathlib.Core.Bool.{Bool, true, false, _&&_}
 use Prim.Native.Nat.{ℕ, _/_, _%_, _≤_, _<_}
 use native.Mathlib.Omega.{arith}
@@ -8,8 +8,6 @@ use borrow.Author.Tests.{eq-eqb, ne-eqb, le-leb, lt-leb, leb-true, leb-false}
 use Rattle.outline.specs.Refusal.{counted}
 use Rattle.outline.proofs.is_counted.Statement.{statement}
 use Rattle.outline.proofs.is_counted.Tie as tie
-use Rattle.outline.proofs.is_counted.Reads as reads
-use Rattle.outline.proofs.is_counted.Lts as lts
 
 few : (n : ℕ) → n < 6 → counted (n / 2) ≡ false
 unfolding counted

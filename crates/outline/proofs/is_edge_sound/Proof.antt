@@ -1,6 +1,6 @@
 -- The loop has shown each corner passed to be an end of the edge or strictly to its left.
-use mathlib.Core.Path.{_≡_, refl, sym, _∙_, ap}
-use mathlib.Core.Bool.{true, false}
+use mathlib.Core.Path.{_≡_, sym, _∙_}
+use mathlib.Core.Bool.{true}
 use Prim.Native.Nat.{ℕ, _≤_, _<_, _-_}
 use native.Mathlib.Omega.{arith}
 use borrow.Author.Needs.{needs}
@@ -12,10 +12,6 @@ use Rattle.outline.specs.Sound.{left}
 use Rattle.outline.specs.Held.{cornersHeld}
 use Rattle.outline.proofs.is_edge_sound.Statement.{statement}
 use Rattle.outline.proofs.is_edge_sound.Tie as tie
-use Rattle.outline.proofs.is_edge_sound.Reads as reads
-use Rattle.outline.proofs.is_edge_sound.Lts as lts
-use Rattle.outline.proofs.is_left.Reads as is-left-reads
-use Rattle.outline.proofs.next.Reads as next-reads
 
 abbrev Inv-loop : tie.InvT-loop
 Inv-loop i o n j a b k₀ k = (k ≤ n) × ((m : ℕ) → m < k → left (cornersHeld o) i m ≡ true)

@@ -11,8 +11,6 @@ use borrow.Author.Tests.{lt-leb, le-leb, ltb-true, ltb-false}
 use native.Mathlib.Omega.{arith}
 use Rattle.outline.proofs.is_in_range.Statement.{statement}
 use Rattle.outline.proofs.is_in_range.Tie as tie
-use Rattle.outline.proofs.is_in_range.Reads as reads
-use Rattle.outline.proofs.is_in_range.Lts as lts
 
 below : (z : ℤ) → ltZ z (negsuc 9999) ≡ true → false ≡ inRange z
 below (pos n) e = absurd (subst T (sym e) tt)

@@ -5,9 +5,6 @@ use mir.Syntax.{w64}
 use borrow.Author.Needs.{needs, sfits-of}
 use Rattle.outline.proofs.is_left.Statement.{statement}
 use Rattle.outline.proofs.is_left.Tie as tie
-use Rattle.outline.proofs.is_left.Reads as reads
-use Rattle.outline.proofs.is_left.Lts as lts
-use Rattle.outline.proofs.turn.Reads as turn-reads
 
 returns : tie.Need-returns
 returns c = simp (eq-eqb _ _ (c .if1 .taken))

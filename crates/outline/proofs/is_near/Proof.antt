@@ -8,9 +8,6 @@ use Rattle.outline.specs.Refusal.{inRange}
 use borrow.Author.Needs.{needs}
 use Rattle.outline.proofs.is_near.Statement.{statement}
 use Rattle.outline.proofs.is_near.Tie as tie
-use Rattle.outline.proofs.is_near.Reads as reads
-use Rattle.outline.proofs.is_near.Lts as lts
-use Rattle.outline.proofs.is_in_range.Reads as is-in-range-reads
 
 is-in-range-requires : tie.Need-is-in-range-requires
 is-in-range-requires c κs = search needs

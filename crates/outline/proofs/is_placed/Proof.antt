@@ -13,9 +13,6 @@ use Rattle.outline.specs.Refusal.{bothInRange}
 use Rattle.outline.specs.Held.{cornersHeld}
 use Rattle.outline.proofs.is_placed.Statement.{statement}
 use Rattle.outline.proofs.is_placed.Tie as tie
-use Rattle.outline.proofs.is_placed.Reads as reads
-use Rattle.outline.proofs.is_placed.Lts as lts
-use Rattle.outline.proofs.is_near.Reads as is-near-reads
 
 abbrev Inv-loop : tie.InvT-loop
 Inv-loop o n i₀ i = (i ≤ n) × ((m : ℕ) → m < i → bothInRange (corner (cornersHeld o) m) ≡ true)

@@ -4,8 +4,6 @@ use native.Mathlib.Omega.{arith}
 use borrow.Author.Needs.{needs}
 use Rattle.outline.proofs.next.Statement.{statement}
 use Rattle.outline.proofs.next.Tie as tie
-use Rattle.outline.proofs.next.Reads as reads
-use Rattle.outline.proofs.next.Lts as lts
 
 add-if1 : tie.Need-add-if1
 add-if1 c = search needs

@@ -13,8 +13,6 @@ use Rattle.outline.specs.Coordinates.{cornersOf}
 use Rattle.outline.proofs.Pairs.{corners-length, corners-at}
 use Rattle.outline.proofs.outline_of.Statement.{statement}
 use Rattle.outline.proofs.outline_of.Tie as tie
-use Rattle.outline.proofs.outline_of.Reads as reads
-use Rattle.outline.proofs.outline_of.Lts as lts
 
 abbrev Inv-loop : tie.InvT-loop
 Inv-loop xs n corners₀ i₀ corners i = (i ≤ n) × (corners ≡ filled (cornersOf xs) origin 16 i)

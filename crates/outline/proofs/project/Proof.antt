@@ -1,6 +1,6 @@
 -- The loop keeps the interval of the corners passed.
 use mathlib.Core.Path.{_≡_, sym, _∙_, ap, ap₂}
-use Prim.Native.Nat.{ℕ, _≤_, _<_, _-_}
+use Prim.Native.Nat.{_≤_, _<_, _-_}
 use native.Mathlib.Omega.{arith}
 use lib.ListN.{take, length}
 use lib.Signed.{ltZ}
@@ -17,11 +17,6 @@ use Rattle.plane.proofs.Prefixes.{low-first, high-first, low-step, high-step}
 use Rattle.plane.specs.Interval.{low as leastOf, high as greatestOf}
 use Rattle.outline.proofs.project.Statement.{statement}
 use Rattle.outline.proofs.project.Tie as tie
-use Rattle.outline.proofs.project.Reads as reads
-use Rattle.outline.proofs.project.Lts as lts
-use Rattle.plane.proofs.dot.Reads as dot-reads
-use Rattle.whole.proofs.greater.Reads as greater-reads
-use Rattle.whole.proofs.lesser.Reads as lesser-reads
 
 abbrev Inv-loop : tie.InvT-loop
 Inv-loop d o n low₀ high₀ k₀ low high k =

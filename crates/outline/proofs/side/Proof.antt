@@ -10,9 +10,6 @@ use Rattle.plane.specs.Edges.{corner}
 use Rattle.outline.proofs.Places.{held-edge}
 use Rattle.outline.proofs.side.Statement.{statement}
 use Rattle.outline.proofs.side.Tie as tie
-use Rattle.outline.proofs.side.Reads as reads
-use Rattle.outline.proofs.side.Lts as lts
-use Rattle.outline.proofs.next.Reads as next-reads
 
 next-requires : tie.Need-next-requires
 next-requires c κs = search needs

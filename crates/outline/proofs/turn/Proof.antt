@@ -6,8 +6,6 @@ use Rattle.whole.proofs.Machine.{vals, rep}
 use Rattle.plane.specs.Point.{cross}
 use Rattle.outline.proofs.turn.Statement.{statement}
 use Rattle.outline.proofs.turn.Tie as tie
-use Rattle.outline.proofs.turn.Reads as reads
-use Rattle.outline.proofs.turn.Lts as lts
 
 sub-result : tie.Need-sub-result
 sub-result c = fits (search bounds depth 12) tt

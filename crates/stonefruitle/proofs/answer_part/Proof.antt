@@ -9,11 +9,6 @@ use Rattle.lines.specs.Begun.{Holds}
 use Rattle.lines.proofs.Feeds.{feeds-holds, feeds-length}
 use Rattle.stonefruitle.proofs.answer_part.Statement.{statement}
 use Rattle.stonefruitle.proofs.answer_part.Tie as tie
-use Rattle.stonefruitle.proofs.answer_part.Reads as reads
-use Rattle.stonefruitle.proofs.answer_part.Lts as lts
-use Rattle.io.proofs.large_buffer.Reads as large-buffer-reads
-use Rattle.io.proofs.write_all.Reads as write-all-reads
-use Rattle.lines.proofs.stream.feed.Reads as feed-reads
 
 abbrev Inv-loop : tie.InvT-loop
 Inv-loop part out₀ begun₀ on₀ at₀ out begun on at = (at ≤ length part) × (length out ≡ 65536) × Holds begun

@@ -9,12 +9,6 @@ use Rattle.lines.specs.Begun.{Holds}
 use Rattle.lines.proofs.Beginnings.{begun-holds}
 use Rattle.stonefruitle.proofs.main.Statement.{statement}
 use Rattle.stonefruitle.proofs.main.Tie as tie
-use Rattle.stonefruitle.proofs.main.Reads as reads
-use Rattle.stonefruitle.proofs.main.Lts as lts
-use Rattle.io.proofs.write_all.Reads as write-all-reads
-use Rattle.lines.proofs.stream.finish.Reads as finish-reads
-use Rattle.lines.proofs.stream.none.Reads as none-reads
-use Rattle.stonefruitle.proofs.answer_next.Reads as answer-next-reads
 
 abbrev Inv-loop : tie.InvT-loop
 Inv-loop begun₀ on₀ turns₀ begun on turns = Holds begun

@@ -1,12 +1,9 @@
 -- The test of the refusal is the definition's own.
-use mathlib.Core.Path.{_≡_, sym, _∙_}
+use mathlib.Core.Path.{sym, _∙_}
 use borrow.Author.Tests.{eq-eqb, ne-eqb}
 use Rattle.verdict.specs.Answer.{answerUnless}
 use Rattle.verdict.proofs.answer_of.Statement.{statement}
 use Rattle.verdict.proofs.answer_of.Tie as tie
-use Rattle.verdict.proofs.answer_of.Reads as reads
-use Rattle.verdict.proofs.answer_of.Lts as lts
-use Rattle.verdict.proofs.verdict.Reads as verdict-reads
 
 returns : tie.Need-returns
 unfolding answerUnless

@@ -8,10 +8,6 @@ use Rattle.verdict.proofs.Listed.{reading-readable, reading-answer, lis
 use borrow.Author.Needs.{needs}
 use Rattle.verdict.proofs.answer_of_lists.Statement.{statement}
 use Rattle.verdict.proofs.answer_of_lists.Tie as tie
-use Rattle.verdict.proofs.answer_of_lists.Reads as reads
-use Rattle.verdict.proofs.answer_of_lists.Lts as lts
-use Rattle.verdict.proofs.answer_of.Reads as answer-of-reads
-use Rattle.verdict.proofs.lists.read_lists.Reads as read-lists-reads
 
 read-lists-requires : tie.Need-read-lists-requires
 read-lists-requires c κs = search needs

@@ -1,4 +1,4 @@
--- `whole::before` meets its contract: the cross products of short times fit, and the test is the definition's. Assumes nothing.
+-- `whole::before` meets its contract: the cross products of short times fit, and the test is the definition's.
 use mathlib.Core.Path.{refl}
 use native.Mathlib.Omega.{arith}
 use Rattle.whole.specs.Time.{before}

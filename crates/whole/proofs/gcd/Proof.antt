@@ -1,4 +1,4 @@
--- `whole::gcd` meets its contract. The loop's invariant: a and b have the divisor of m and n; the measure is b. Assumes nothing.
+-- `whole::gcd` meets its contract. The loop's invariant: a and b have the divisor of m and n; the measure is b.
 use mathlib.Core.Path.{_≡_, refl, sym, _∙_, ap}
 use native.Mathlib.Nat.{mod-lt}
 use native.Mathlib.Omega.{arith}

@@ -1,5 +1,5 @@
 -- The two answers are the two arms of the definition's own test.
-use mathlib.Core.Path.{_≡_, ap, ap₂, sym, _∙_}
+use mathlib.Core.Path.{ap, ap₂, sym, _∙_}
 use mathlib.Core.Bool.{cond}
 use lib.Signed.{ltZ}
 use mir.Facts.{toZ-ofZ}

@@ -1,4 +1,4 @@
--- `whole::reduced` meets its contract: the divisor of n and a d that is not 0 is not 0, and the quotients by it are the definition's. Assumes nothing.
+-- `whole::reduced` meets its contract: the divisor of n and a d that is not 0 is not 0, and the quotients by it are the definition's.
 use mathlib.Core.Path.{ap}
 use native.Mathlib.Omega.{arith}
 use borrow.Author.Needs.{needs}

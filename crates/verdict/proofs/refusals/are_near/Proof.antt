@@ -6,9 +6,6 @@ use Rattle.outline.specs.Refusal.{bothInRange}
 use borrow.Author.Needs.{needs}
 use Rattle.verdict.proofs.refusals.are_near.Statement.{statement}
 use Rattle.verdict.proofs.refusals.are_near.Tie as tie
-use Rattle.verdict.proofs.refusals.are_near.Reads as reads
-use Rattle.verdict.proofs.refusals.are_near.Lts as lts
-use Rattle.outline.proofs.is_near.Reads as is-near-reads
 
 is-near-requires : tie.Need-is-near-requires
 is-near-requires c κs = search needs

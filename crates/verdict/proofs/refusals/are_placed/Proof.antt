@@ -7,9 +7,6 @@ use Rattle.outline.specs.Held.{cornersHeld}
 use borrow.Author.Needs.{needs}
 use Rattle.verdict.proofs.refusals.are_placed.Statement.{statement}
 use Rattle.verdict.proofs.refusals.are_placed.Tie as tie
-use Rattle.verdict.proofs.refusals.are_placed.Reads as reads
-use Rattle.verdict.proofs.refusals.are_placed.Lts as lts
-use Rattle.outline.proofs.is_placed.Reads as is-placed-reads
 
 is-placed-requires : tie.Need-is-placed-requires
 is-placed-requires c κs = search needs

@@ -8,8 +8,6 @@ use Rattle.whole.proofs.Flags.{and-false, and-true}
 use Rattle.whole.proofs.Linear.{ints}
 use Rattle.verdict.proofs.refusals.is_limited.Statement.{statement}
 use Rattle.verdict.proofs.refusals.is_limited.Tie as tie
-use Rattle.verdict.proofs.refusals.is_limited.Reads as reads
-use Rattle.verdict.proofs.refusals.is_limited.Lts as lts
 
 below : (t : ℤ) → ltZ t (pos 0) ≡ true → leZ (pos 0) t ≡ false
 below t e = omega ints

@@ -1,7 +1,6 @@
 -- The tests are made in the order of the reasons; each answer is the one that their outcomes give.
 use mathlib.Core.Path.{_≡_, sym, _∙_, ap}
-use mathlib.Core.Bool.{true, false, _&&_, and-eq-true-iff}
-use Prim.Native.Nat.{_≤_}
+use mathlib.Core.Bool.{true, _&&_, and-eq-true-iff}
 use lib.ListN.{length}
 use mir.Syntax.{w64}
 use mir.Val.{toZ, ofZ}

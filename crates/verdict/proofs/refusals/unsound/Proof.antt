@@ -11,9 +11,6 @@ use Rattle.outline.proofs.Testing.{sound-bad, sound-no-bad}
 use borrow.Author.Needs.{needs}
 use Rattle.verdict.proofs.refusals.unsound.Statement.{statement}
 use Rattle.verdict.proofs.refusals.unsound.Tie as tie
-use Rattle.verdict.proofs.refusals.unsound.Reads as reads
-use Rattle.verdict.proofs.refusals.unsound.Lts as lts
-use Rattle.outline.proofs.bad_edge.Reads as bad-edge-reads
 
 bad : (o : Outline) → Held o → {e : ℕ} → e ≡ badEdge (cornersHeld o) → e < o .count → isSound (cornersHeld o) ≡ false
 bad o h p k = sound-bad (cornersHeld o) (subst₂ _<_ p (sym (held-length o (h .kept))) k)
