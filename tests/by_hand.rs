@@ -1,0 +1,880 @@
+//! Works out every number of docs/BY-HAND.md from its move lines, in the
+//! order of the definitions. See tests/by-hand.
+//!
+//!     by_hand --print      the blocks of the document, in its order
+//!     by_hand --lines      the move lines
+//!     by_hand --answers    the answer lines
+//!
+//! It shares no code with the program or with the independent one. What the
+//! document concludes from the numbers is checked here before it is printed:
+//! the weights against the definition of a common point, and each statement
+//! about a side against the corners at many times.
+
+use std::fmt;
+
+/// Ends the program, so that tests/by-hand fails, unless `holds`.
+fn check(holds: bool, what: &str) {
+    if !holds {
+        println!("by_hand: this does not hold: {what}");
+        std::process::exit(1);
+    }
+}
+
+// ---------------------------------------------------------------------------
+// Points and times.
+
+#[derive(Clone, Copy, PartialEq)]
+struct Point(i128, i128);
+
+impl Point {
+    fn plus(self, q: Point) -> Point {
+        Point(self.0 + q.0, self.1 + q.1)
+    }
+
+    fn minus(self, q: Point) -> Point {
+        Point(self.0 - q.0, self.1 - q.1)
+    }
+
+    fn times(self, k: i128) -> Point {
+        Point(k * self.0, k * self.1)
+    }
+
+    fn dot(self, q: Point) -> i128 {
+        self.0 * q.0 + self.1 * q.1
+    }
+
+    fn cross(self, q: Point) -> i128 {
+        self.0 * q.1 - self.1 * q.0
+    }
+}
+
+impl fmt::Display for Point {
+    fn fmt(&self, f: &mut fmt::Formatter) -> fmt::Result {
+        write!(f, "({},{})", self.0, self.1)
+    }
+}
+
+/// A fraction n/d, d at least 1.
+#[derive(Clone, Copy, PartialEq)]
+struct Time {
+    n: i128,
+    d: i128,
+}
+
+fn gcd(a: i128, b: i128) -> i128 {
+    if b == 0 {
+        a.abs()
+    } else {
+        gcd(b, a % b)
+    }
+}
+
+impl Time {
+    fn reduced(self) -> Time {
+        let g = gcd(self.n, self.d);
+        let (n, d) = (self.n / g, self.d / g);
+        Time { n, d }
+    }
+
+    fn before(self, other: Time) -> bool {
+        self.n * other.d < other.n * self.d
+    }
+
+    /// As found, and what it comes to: in lowest terms, or cut to the move.
+    fn becomes(self, other: Time) -> String {
+        match (self == other, self.reduced() == other) {
+            (true, _) => format!("{self}"),
+            (_, true) => format!("{self} = {other}"),
+            _ => format!("{self} → {other}"),
+        }
+    }
+}
+
+impl fmt::Display for Time {
+    fn fmt(&self, f: &mut fmt::Formatter) -> fmt::Result {
+        write!(f, "{}/{}", self.n, self.d)
+    }
+}
+
+// ---------------------------------------------------------------------------
+// The move, read from its line.
+
+struct Move {
+    line: &'static str,
+    frame: Vec<u8>,
+    limit: i128,
+    va: Point,
+    vb: Point,
+    a: Vec<Point>,
+    b: Vec<Point>,
+}
+
+fn read(line: &'static str) -> Move {
+    let byte = |i: usize| u8::from_str_radix(&line[2 * i..2 * i + 2], 16);
+    let frame: Result<Vec<u8>, _> = (0..line.len() / 2).map(byte).collect();
+    let frame = frame.expect("two digits a byte");
+    let (count_a, count_b) = (frame[1] as usize, frame[2] as usize);
+    check(frame[0] == 1, "the line is a move");
+    check(frame.len() == 13 + 4 * (count_a + count_b), "its length");
+    let signed = |at: usize| i16::from_be_bytes([frame[at], frame[at + 1]]) as i128;
+    let pair = |at: usize| Point(signed(at), signed(at + 2));
+    let corners = |at: usize, count: usize| (0..count).map(|i| pair(at + 4 * i)).collect();
+    let m = Move {
+        line,
+        limit: frame[3] as i128 * 256 + frame[4] as i128,
+        va: pair(5),
+        vb: pair(9),
+        a: corners(13, count_a),
+        b: corners(13 + 4 * count_a, count_b),
+        frame,
+    };
+    check(is_sound(&m.a) && is_sound(&m.b), "both outlines are sound");
+    m
+}
+
+fn next(outline: &[Point], i: usize) -> usize {
+    (i + 1) % outline.len()
+}
+
+fn edge(outline: &[Point], i: usize) -> Point {
+    outline[next(outline, i)].minus(outline[i])
+}
+
+/// The cross products of each edge with the step from its start to p.
+fn crosses(outline: &[Point], p: Point) -> Vec<i128> {
+    let cross = |i| edge(outline, i).cross(p.minus(outline[i]));
+    (0..outline.len()).map(cross).collect()
+}
+
+fn is_sound(outline: &[Point]) -> bool {
+    (0..outline.len()).all(|k| {
+        let crosses = crosses(outline, outline[k]);
+        (0..outline.len()).all(|i| k == i || k == next(outline, i) || crosses[i] > 0)
+    })
+}
+
+fn inside(outline: &[Point], p: Point) -> bool {
+    crosses(outline, p).iter().all(|&c| c >= 0)
+}
+
+/// The corners at n/d, times d.
+fn moved(outline: &[Point], v: Point, t: Time) -> Vec<Point> {
+    let moved = |c: &Point| c.times(t.d).plus(v.times(t.n));
+    outline.iter().map(moved).collect()
+}
+
+// ---------------------------------------------------------------------------
+// The sides and their spans.
+
+type Span = (Time, Time);
+
+struct Side {
+    of: char,
+    edge: usize,
+    from: Point,
+    to: Point,
+    direction: Point,
+    /// The products of the direction with the corners: all, least, greatest.
+    on_a: Vec<i128>,
+    on_b: Vec<i128>,
+    a: (i128, i128),
+    b: (i128, i128),
+    /// The products with the velocities, and their difference.
+    speed_a: i128,
+    speed_b: i128,
+    w: i128,
+    lo: i128,
+    hi: i128,
+    /// Where w is not 0: when s w is lo and when it is hi, the earlier first.
+    uncut: Option<Span>,
+    span: Option<Span>,
+}
+
+fn side(m: &Move, k: usize) -> Side {
+    let (of, outline, i) = match k.checked_sub(m.a.len()) {
+        None => ('A', &m.a, k),
+        Some(j) => ('B', &m.b, j),
+    };
+    let (from, to) = (outline[i], outline[next(outline, i)]);
+    let Point(x, y) = to.minus(from);
+    let direction = Point(y, -x);
+    let products = |outline: &[Point]| -> Vec<i128> {
+        let product = |c: &Point| direction.dot(*c);
+        outline.iter().map(product).collect()
+    };
+    let ends = |all: &[i128]| (*all.iter().min().unwrap(), *all.iter().max().unwrap());
+    let (on_a, on_b) = (products(&m.a), products(&m.b));
+    let (a, b) = (ends(&on_a), ends(&on_b));
+    let (speed_a, speed_b) = (direction.dot(m.va), direction.dot(m.vb));
+    let (w, lo, hi) = (speed_b - speed_a, a.0 - b.1, a.1 - b.0);
+    let uncut = match w.signum() {
+        1 => Some((Time { n: lo, d: w }, Time { n: hi, d: w })),
+        -1 => Some((Time { n: -hi, d: -w }, Time { n: -lo, d: -w })),
+        _ => None,
+    };
+    Side {
+        span: span(uncut, lo <= 0 && 0 <= hi, m.limit),
+        of,
+        edge: i,
+        from,
+        to,
+        direction,
+        on_a,
+        on_b,
+        a,
+        b,
+        speed_a,
+        speed_b,
+        w,
+        lo,
+        hi,
+        uncut,
+    }
+}
+
+/// The part from 0 to the limit, if there is one. Without a relative speed
+/// the intervals share a value always or never.
+fn span(uncut: Option<Span>, always: bool, limit: i128) -> Option<Span> {
+    let (zero, limit) = (Time { n: 0, d: 1 }, Time { n: limit, d: 1 });
+    let Some((from, to)) = uncut else {
+        return always.then_some((zero, limit));
+    };
+    if to.before(zero) || limit.before(from) {
+        return None;
+    }
+    let begin = if zero.before(from) { from } else { zero };
+    let end = if to.before(limit) { to } else { limit };
+    Some((begin.reduced(), end.reduced()))
+}
+
+// ---------------------------------------------------------------------------
+// The verdict.
+
+#[derive(Clone, Copy)]
+enum Showing {
+    CornerOfA(usize),
+    CornerOfB(usize),
+}
+
+#[derive(Clone, Copy)]
+enum Verdict {
+    ClearByOne(usize),
+    /// The sides with the greatest begin and the least end.
+    ClearByTwo(usize, usize),
+    /// The same sides, and what shows.
+    Contact(usize, usize, Showing),
+}
+
+/// The greatest begin and the least end.
+fn extremes(sides: &[Side]) -> Span {
+    let mut spans = sides.iter().filter_map(|s| s.span);
+    let some = spans.next().expect("a side with a span");
+    spans.fold(some, |(first, last), (begin, end)| {
+        let first = if first.before(begin) { begin } else { first };
+        (first, if end.before(last) { end } else { last })
+    })
+}
+
+fn verdict(m: &Move, sides: &[Side]) -> Verdict {
+    if let Some(k) = sides.iter().position(|s| s.span.is_none()) {
+        return Verdict::ClearByOne(k);
+    }
+    let (first, last) = extremes(sides);
+    let i = sides.iter().position(|s| s.span.unwrap().0 == first);
+    let j = sides.iter().position(|s| s.span.unwrap().1 == last);
+    let (i, j) = (i.unwrap(), j.unwrap());
+    if last.before(first) {
+        return Verdict::ClearByTwo(i, j);
+    }
+    check(first.n > 0, "each contact of the document is after time 0");
+    let (a, b) = (moved(&m.a, m.va, first), moved(&m.b, m.vb, first));
+    let of_a = a.iter().position(|&p| inside(&b, p));
+    let of_b = b.iter().position(|&p| inside(&a, p));
+    let showing = match (of_a, of_b) {
+        (Some(i), _) => Showing::CornerOfA(i),
+        (None, Some(j)) => Showing::CornerOfB(j),
+        (None, None) => panic!("edges show only at time 0"),
+    };
+    Verdict::Contact(i, j, showing)
+}
+
+/// Weights on the corners of the outline for the point p, which is a corner
+/// of it or lies on an edge of it: on that corner, or on the edge's two ends.
+fn weights(outline: &[Point], p: Point) -> Vec<i128> {
+    let mut all = vec![0; outline.len()];
+    if let Some(i) = outline.iter().position(|&c| c == p) {
+        all[i] = 1;
+        return all;
+    }
+    let on = crosses(outline, p).iter().position(|&c| c == 0);
+    let i = on.expect("after time 0 a contact begins on an edge");
+    let (step, part) = (edge(outline, i), p.minus(outline[i]));
+    let (step, part) = match step.0 {
+        0 => (step.1.abs(), part.1.abs()),
+        _ => (step.0.abs(), part.0.abs()),
+    };
+    let g = gcd(step, part);
+    all[i] = (step - part) / g;
+    all[next(outline, i)] = part / g;
+    all
+}
+
+fn weighted(weights: &[i128], outline: &[Point]) -> Point {
+    let products = weights.iter().zip(outline).map(|(&w, c)| c.times(w));
+    products.fold(Point(0, 0), Point::plus)
+}
+
+/// The outlines at first, and the weights on A's corners and on B's of the
+/// point that the showing names.
+struct Common {
+    first: Time,
+    a: Vec<Point>,
+    b: Vec<Point>,
+    on_a: Vec<i128>,
+    on_b: Vec<i128>,
+    /// The point's coordinates, over the total and the d of first.
+    x: Time,
+    y: Time,
+}
+
+fn common_point(m: &Move, first: Time, showing: Showing) -> Common {
+    let (a, b) = (moved(&m.a, m.va, first), moved(&m.b, m.vb, first));
+    let (mut on_a, mut on_b) = (vec![0; a.len()], vec![0; b.len()]);
+    match showing {
+        Showing::CornerOfA(i) => {
+            on_b = weights(&b, a[i]);
+            on_a[i] = on_b.iter().sum();
+        }
+        Showing::CornerOfB(j) => {
+            on_a = weights(&a, b[j]);
+            on_b[j] = on_a.iter().sum();
+        }
+    }
+    let (total, sum) = (on_a.iter().sum::<i128>(), weighted(&on_a, &a));
+    check(on_a.iter().all(|&w| w >= 0), "no weight on A is negative");
+    check(on_b.iter().all(|&w| w >= 0), "no weight on B is negative");
+    check(total > 0, "the total is above zero");
+    check(total == on_b.iter().sum(), "the totals are the same");
+    check(sum == weighted(&on_b, &b), "the weighted sums agree");
+    let over = |n: i128| Time {
+        n,
+        d: total * first.d,
+    };
+    let (x, y) = (over(sum.0), over(sum.1));
+    Common {
+        first,
+        a,
+        b,
+        on_a,
+        on_b,
+        x,
+        y,
+    }
+}
+
+// ---------------------------------------------------------------------------
+// The blocks.
+
+fn list<T: ToString>(items: &[T]) -> String {
+    let all: Vec<String> = items.iter().map(T::to_string).collect();
+    all.join(", ")
+}
+
+fn hex(bytes: &[u8]) -> String {
+    bytes.iter().map(|b| format!("{b:02x}")).collect()
+}
+
+/// A table with this head, its columns parted by `|`.
+fn table(head: &str, rows: &[String]) -> String {
+    let rule = "---|".repeat(head.split('|').count());
+    let rows: String = rows.iter().map(|r| format!("| {r} |\n")).collect();
+    format!("| {head} |\n|{rule}\n{rows}")
+}
+
+/// A line and its bytes: for each field how many they are, and their meaning.
+fn frame_table(frame: &[u8], fields: &[(usize, String)]) -> String {
+    let (mut at, mut rows) = (0, Vec::new());
+    for (size, meaning) in fields {
+        let to = at + size - 1;
+        let places = match size {
+            1 => format!("{at}"),
+            _ => format!("{at} to {to}"),
+        };
+        rows.push(format!("{places} | `{}` | {meaning}", hex(&frame[at..=to])));
+        at = to + 1;
+    }
+    check(at == frame.len(), "the table has every byte of the line");
+    let table = table("Bytes | Digits | Meaning", &rows);
+    format!("    {}\n\n{table}", hex(frame))
+}
+
+/// The move in words, and the answer to the question about it.
+fn move_block(m: &Move, sides: &[Side], v: Verdict) -> String {
+    let goes = |p: Point| match p {
+        Point(0, 0) => "stands still".to_string(),
+        _ => format!("moves by {p} per unit of time"),
+    };
+    let named = |k: usize| {
+        let Side {
+            of, edge, from, to, ..
+        } = &sides[k];
+        format!("side {k} ({of}'s edge {edge}, at time 0 from {from} to {to})")
+    };
+    let (first, last) = extremes(sides);
+    let answer = match v {
+        Verdict::ClearByOne(k) => format!(
+            "*Which side keeps them apart, for the whole of the move?* One: {}.",
+            named(k)
+        ),
+        Verdict::ClearByTwo(i, j) => format!(
+            "*Which side keeps them apart, for the whole of the move?* At each time one of two: \
+             before {first}, {}; after {last}, {}.",
+            named(i),
+            named(j)
+        ),
+        Verdict::Contact(bearing, _, showing) => {
+            let Common { x, y, .. } = common_point(m, first, showing);
+            let shown = match showing {
+                Showing::CornerOfA(i) => format!("A's corner {i}"),
+                Showing::CornerOfB(j) => format!("B's corner {j}"),
+            };
+            format!(
+                "*At what instant would the outlines first have met, and where?* At {first}, \
+                 at x = {}, y = {}, where {shown} is then. The bearing side is {}.",
+                x.reduced(),
+                y.reduced(),
+                named(bearing).trim_start_matches("side ")
+            )
+        }
+    };
+    format!(
+        "A is {} and {}. B is {} and {}. The limit T is {}.\n\n{answer}\n",
+        list(&m.a),
+        goes(m.va),
+        list(&m.b),
+        goes(m.vb),
+        m.limit
+    )
+}
+
+fn line_block(m: &Move) -> String {
+    let mut fields = vec![
+        (1, "a move".into()),
+        (1, format!("A has {} corners", m.a.len())),
+        (1, format!("B has {} corners", m.b.len())),
+        (2, format!("the limit T is {}", m.limit)),
+        (4, format!("velocity of A: {}", m.va)),
+        (4, format!("velocity of B: {}", m.vb)),
+    ];
+    for (name, outline) in [('A', &m.a), ('B', &m.b)] {
+        for (i, c) in outline.iter().enumerate() {
+            fields.push((4, format!("{name}'s corner {i}: {c}")));
+        }
+    }
+    let mut out = frame_table(&m.frame, &fields);
+    let mut numbers: Vec<i128> = [m.va, m.vb].iter().flat_map(|v| [v.0, v.1]).collect();
+    numbers.extend(m.a.iter().chain(&m.b).flat_map(|c| [c.0, c.1]));
+    numbers.retain(|&v| v < 0);
+    numbers.sort_by_key(|v| -v);
+    numbers.dedup();
+    if !numbers.is_empty() {
+        let read = |v: &i128| {
+            let u = v + 65536;
+            format!("`{u:04x}` is {u}, read as {u} - 65536 = {v}")
+        };
+        let all: Vec<String> = numbers.iter().map(read).collect();
+        out += &format!("\nWith a sign: {}.\n", all.join("; "));
+    }
+    out
+}
+
+/// The line of P3, by its difference from that of P1.
+fn limit_block(m: &Move, p1: &Move) -> String {
+    check(m.frame[..3] == p1.frame[..3], "the bytes before the limit");
+    check(m.frame[5..] == p1.frame[5..], "the bytes after the limit");
+    let (line, digits, limit) = (m.line, hex(&m.frame[3..5]), m.limit);
+    format!("    {line}\n\nThe line is P1's except for bytes 3 to 4, `{digits}`: the limit T is {limit}.\n")
+}
+
+fn sides_block(sides: &[Side]) -> String {
+    let row = |(k, s): (usize, &Side)| {
+        let Side {
+            of, edge, from, to, ..
+        } = s;
+        let (step, direction) = (to.minus(*from), s.direction);
+        format!("{k} | {of}'s edge {edge} | {from} | {to} | {step} | {direction}")
+    };
+    let rows: Vec<String> = sides.iter().enumerate().map(row).collect();
+    table(
+        "Side | Edge | From | To | Step (x, y) | Direction (y, -x)",
+        &rows,
+    )
+}
+
+/// p - q, and its value v
+fn difference(p: i128, q: i128, v: i128) -> String {
+    check(p - q == v, "the difference has this value");
+    match q < 0 {
+        true => format!("{p} - ({q}) = {v}"),
+        false => format!("{p} - {q} = {v}"),
+    }
+}
+
+/// The spans; where one is empty, up to the lowest such side.
+fn spans_block(m: &Move, sides: &[Side]) -> String {
+    let empty = sides.iter().position(|s| s.span.is_none());
+    let shown = empty.map_or(sides.len(), |k| k + 1);
+    let row = |(k, s): (usize, &Side)| {
+        let span = match (s.span, s.uncut) {
+            (Some((begin, end)), Some((from, to))) => {
+                format!("{} | {}", from.becomes(begin), to.becomes(end))
+            }
+            (Some((begin, end)), None) => format!("{begin} | {end}"),
+            (None, Some((from, _))) if from.n > m.limit * from.d => {
+                let from = from.becomes(from.reduced());
+                format!("none: {from} is after {}/1 | none", m.limit)
+            }
+            _ => panic!("the document has no such empty span"),
+        };
+        let w = difference(s.speed_b, s.speed_a, s.w);
+        let lo = difference(s.a.0, s.b.1, s.lo);
+        let hi = difference(s.a.1, s.b.0, s.hi);
+        let a = format!("{} | {} to {}", list(&s.on_a), s.a.0, s.a.1);
+        let b = format!("{} | {} to {}", list(&s.on_b), s.b.0, s.b.1);
+        format!("{k} | {a} | {b} | {w} | {lo} | {hi} | {span}")
+    };
+    let rows: Vec<String> = sides[..shown].iter().enumerate().map(row).collect();
+    table(
+        "Side | A's products | A's interval | B's products | B's interval | w | lo | hi | Begin | End",
+        &rows,
+    )
+}
+
+fn verdict_block(sides: &[Side], v: Verdict) -> String {
+    if let Verdict::ClearByOne(k) = v {
+        return format!("The lowest side whose span is empty is {k}: **clear by side {k}**.\n");
+    }
+    let (first, last) = extremes(sides);
+    let having = |t: Time, of: fn(Span) -> Time| {
+        let has = |k: &usize| sides[*k].span.map(of) == Some(t);
+        let all: Vec<usize> = (0..sides.len()).filter(has).collect();
+        match all[..] {
+            [k] => format!("of side {k}"),
+            _ => format!("of sides {}; the lowest is {}", list(&all), all[0]),
+        }
+    };
+    let rows = [
+        format!("greatest begin | {first} | {}", having(first, |s| s.0)),
+        format!("least end | {last} | {}", having(last, |s| s.1)),
+    ];
+    let (l, r) = (first.n * last.d, last.n * first.d);
+    let end = match v {
+        Verdict::Contact(bearing, ..) => format!(
+            "{l} does not exceed {r}: **contact from {first} to {last}**. \
+             First is above zero: the bearing side is {bearing}."
+        ),
+        Verdict::ClearByTwo(i, j) => format!(
+            "{l} exceeds {r}, so the greatest begin exceeds the least end: \
+             **clear by sides {i} and {j}**."
+        ),
+        Verdict::ClearByOne(_) => unreachable!(),
+    };
+    format!(
+        "{}\nNo span is empty. {}·{} = {l} and {}·{} = {r}; {end}\n",
+        table(" | Time | Sides", &rows),
+        first.n,
+        last.d,
+        last.n,
+        first.d
+    )
+}
+
+/// k·d + v·n
+fn term(k: i128, v: i128) -> String {
+    match v.signum() {
+        0 => format!("{k}·d"),
+        1 => format!("{k}·d + {v}·n"),
+        _ => format!("{k}·d - {}·n", -v),
+    }
+}
+
+/// When side k keeps the outlines apart: before its begin, or after its end.
+fn apart_row(m: &Move, sides: &[Side], k: usize, early: bool) -> String {
+    let s = &sides[k];
+    let a_below = early == (s.w < 0);
+    // The greatest of the lower and the least of the upper, as p·d + v·n.
+    let ((lower, p, v), (upper, q, u)) = if a_below {
+        (('A', s.a.1, s.speed_a), ('B', s.b.0, s.speed_b))
+    } else {
+        (('B', s.b.1, s.speed_b), ('A', s.a.0, s.speed_a))
+    };
+    let (from, to) = s.uncut.expect("a named side has a relative speed");
+    let (when, that) = if early {
+        check(v > u && q > p, "the side's intervals come together");
+        let that = format!("n/d is before {}", from.reduced());
+        (format!("{}·n < {}·d", v - u, q - p), that)
+    } else {
+        check(u > v && p > q, "the side's intervals part");
+        let that = format!("n/d is after {}", to.reduced());
+        (format!("{}·d < {}·n", p - q, u - v), that)
+    };
+    // Against the corners themselves, at every n/d of the move with d up to 12.
+    for t in (1..=12).flat_map(|d| (0..=m.limit * d).map(move |n| Time { n, d })) {
+        let said = if early { t.before(from) } else { to.before(t) };
+        let (a, b) = (moved(&m.a, m.va, t), moved(&m.b, m.vb, t));
+        let (low, high) = if a_below { (a, b) } else { (b, a) };
+        let below = |p: &Point, q: &Point| s.direction.dot(*p) < s.direction.dot(*q);
+        let below = low.iter().all(|p| high.iter().all(|q| below(p, q)));
+        check(said == below, "the side keeps the outlines apart just then");
+    }
+    let (lower, upper) = (
+        format!("{lower}: {}", term(p, v)),
+        format!("{upper}: {}", term(q, u)),
+    );
+    format!("{k} | {lower} | {upper} | {when} | {that}")
+}
+
+fn apart_block(m: &Move, sides: &[Side], v: Verdict) -> String {
+    let (first, last) = extremes(sides);
+    let (rows, end) = match v {
+        Verdict::ClearByOne(k) => {
+            let s = &sides[k];
+            let (t, w, gap) = (m.limit, s.w.abs(), s.uncut.unwrap().0.n);
+            let most = w * t;
+            check(most < gap, "the limit is before the begin");
+            let end = format!(
+                "\nThe move ends at {t}/1: n is at most {t}·d, so {w}·n is at most {most}·d, \
+                 and {most}·d is less than {gap}·d. \
+                 At every time of the move side {k} keeps the outlines apart.\n"
+            );
+            (vec![apart_row(m, sides, k, true)], end)
+        }
+        Verdict::ClearByTwo(i, j) => {
+            check(last.before(first), "no time is left out");
+            let end = format!(
+                "\n{last} is before {first}. So a time that is not before {first} is after {last}: \
+                 at every time of the move side {i} or side {j} keeps the outlines apart. \
+                 Up to {last} side {i} does, from {first} on side {j} does, \
+                 and between the two both do.\n"
+            );
+            let rows = [(i, true), (j, false)].map(|(k, early)| apart_row(m, sides, k, early));
+            (rows.to_vec(), end)
+        }
+        Verdict::Contact(i, j, _) => {
+            let rows = [(i, true), (j, false)].map(|(k, early)| apart_row(m, sides, k, early));
+            (rows.to_vec(), String::new())
+        }
+    };
+    let head = "Side | Greatest of the lower | Least of the upper | The lower is below exactly when | That is";
+    table(head, &rows) + &end
+}
+
+fn moved_block(m: &Move, c: &Common) -> String {
+    let Time { n, d } = c.first;
+    let mut rows = Vec::new();
+    for (name, outline, v, moved) in [('A', &m.a, m.va, &c.a), ('B', &m.b, m.vb, &c.b)] {
+        for (i, corner) in outline.iter().enumerate() {
+            rows.push(format!(
+                "{name}'s {i} | {d}·{corner} + {n}·{v} = {}",
+                moved[i]
+            ));
+        }
+    }
+    table(&format!("Corner | At {}, times {d}", c.first), &rows)
+}
+
+/// The corners of one outline against the edges of another, up to the lowest
+/// that is inside or on it.
+fn inside_table(name: char, corners: &[Point], other: char, outline: &[Point]) -> String {
+    let edges: Vec<String> = (0..outline.len())
+        .map(|i| format!("{other}'s edge {i}"))
+        .collect();
+    let found = corners.iter().position(|&p| inside(outline, p));
+    let shown = found.map_or(corners.len(), |i| i + 1);
+    let row = |i: usize| {
+        let products = list(&crosses(outline, corners[i])).replace(", ", " | ");
+        let yes = if found == Some(i) { "**yes**" } else { "no" };
+        format!("{i}: {} | {products} | {yes}", corners[i])
+    };
+    let rows: Vec<String> = (0..shown).map(row).collect();
+    let edges = edges.join(" | ");
+    table(
+        &format!("{name}'s corner | {edges} | Inside or on {other}"),
+        &rows,
+    )
+}
+
+fn showing_block(c: &Common, showing: Showing) -> String {
+    let of_a = inside_table('A', &c.a, 'B', &c.b);
+    match showing {
+        Showing::CornerOfA(i) => format!("{of_a}\nKind 0: A's corner {i} shows.\n"),
+        Showing::CornerOfB(j) => format!(
+            "{of_a}\nNo corner of A shows; then B's corners are tried.\n\n\
+             {}\nKind 1: B's corner {j} shows.\n",
+            inside_table('B', &c.b, 'A', &c.a)
+        ),
+    }
+}
+
+/// How the weights on an outline are found, given a corner of the other one.
+fn found(corner: String, p: Point, other: char, outline: &[Point], on: &[i128]) -> String {
+    let used: Vec<usize> = (0..on.len()).filter(|&k| on[k] > 0).collect();
+    if let [k] = used[..] {
+        check(outline[k] == p, "the two corners are at one place");
+        let w = on[k];
+        return format!("{corner} is where {other}'s corner {k} is, at {p}: weight {w} on each.");
+    }
+    let edges = (0..on.len()).find(|&e| used.contains(&e) && used.contains(&next(outline, e)));
+    let e = edges.expect("the weights are on an edge");
+    let f = next(outline, e);
+    let (start, stop, total) = (outline[e], outline[f], on[e] + on[f]);
+    let (step, part) = (stop.minus(start), p.minus(start));
+    check(used.len() == 2, "the weights are on one edge alone");
+    check(
+        part.times(total) == step.times(on[f]),
+        "the parts of the edge",
+    );
+    format!(
+        "{corner} lies on {other}'s edge {e}. The edge's step is {stop} - {start} = {step}; \
+         the step from its start to the corner is {p} - {start} = {part}, \
+         which is {of} of {total} parts of it. \
+         So the weight is {of} on the edge's end, corner {f}, \
+         and {total} - {of} = {} on its start, corner {e}; {corner} takes the total, {total}.",
+        on[e],
+        of = on[f]
+    )
+}
+
+fn weights_block(c: &Common, showing: Showing) -> String {
+    let how = match showing {
+        Showing::CornerOfA(i) => found(format!("A's corner {i}"), c.a[i], 'B', &c.b, &c.on_b),
+        Showing::CornerOfB(j) => found(format!("B's corner {j}"), c.b[j], 'A', &c.a, &c.on_a),
+    };
+    let mut rows = Vec::new();
+    for (name, outline, on) in [('A', &c.a, &c.on_a), ('B', &c.b, &c.on_b)] {
+        for (i, corner) in outline.iter().enumerate() {
+            let (w, product) = (on[i], corner.times(on[i]));
+            rows.push(format!("{name}'s {i} | {corner} | {w} | {product}"));
+        }
+        let (total, sum) = (on.iter().sum::<i128>(), weighted(on, outline));
+        rows.push(format!("**{name} in all** |  | **{total}** | **{sum}**"));
+    }
+    let table = table("Corner | Moved | Weight | Weight times moved corner", &rows);
+    let (total, d, over) = (c.on_a.iter().sum::<i128>(), c.first.d, c.x.d);
+    let (x, y) = (c.x.becomes(c.x.reduced()), c.y.becomes(c.y.reduced()));
+    format!(
+        "{how}\n\n{table}\nBoth totals are {total} and both sums {}: a common point. \
+         To name the place, divide by the total and by the {d} of the moved corners, \
+         {total}·{d} = {over}: x = {x}, y = {y}.\n",
+        weighted(&c.on_a, &c.a)
+    )
+}
+
+/// The answer frame, with what each of its fields means.
+fn answer(sides: &[Side], v: Verdict) -> (Vec<u8>, Vec<(usize, String)>) {
+    let mut frame = vec![0x81];
+    let mut fields = vec![(1, "an answer".to_string())];
+    let mut byte = |value: usize, meaning: String| {
+        frame.push(value as u8);
+        fields.push((1, meaning));
+    };
+    match v {
+        Verdict::ClearByOne(k) => {
+            byte(0, "clear by one side".into());
+            byte(k, format!("side {k}"));
+        }
+        Verdict::ClearByTwo(i, j) => {
+            byte(1, "clear by two sides".into());
+            byte(i, format!("side {i}, the lowest with the greatest begin"));
+            byte(j, format!("side {j}, the lowest with the least end"));
+        }
+        Verdict::Contact(bearing, _, showing) => {
+            byte(2, "contact".into());
+            let (first, last) = extremes(sides);
+            for (name, value) in [
+                ("first, n", first.n),
+                ("first, d", first.d),
+                ("last, n", last.n),
+                ("last, d", last.d),
+            ] {
+                frame.extend((value as u32).to_be_bytes());
+                fields.push((4, format!("{name}: {value}")));
+            }
+            let (kind, of, i) = match showing {
+                Showing::CornerOfA(i) => (0, 'A', i),
+                Showing::CornerOfB(j) => (1, 'B', j),
+            };
+            frame.extend([bearing as u8, kind, i as u8, 0]);
+            fields.extend([
+                (1, format!("bearing side {bearing}")),
+                (1, format!("showing of kind {kind}: a corner of {of}")),
+                (1, format!("corner {i}")),
+                (1, "not used by this kind".into()),
+            ]);
+        }
+    }
+    (frame, fields)
+}
+
+// ---------------------------------------------------------------------------
+
+/// P1 is line 1 of the examples, and so on.
+fn example(number: usize) -> &'static str {
+    let lines = include_str!("../examples/moves.txt");
+    lines.lines().nth(number - 1).expect("the examples have it")
+}
+
+/// A is the triangle (0,0), (3,0), (1,3) and moves by (1,1); B is the
+/// quadrilateral (4,2), (6,2), (9,4), (6,4) and moves by (0,1); T is 10.
+const F: &str = "010304000a0001000100000001\
+                 000000000003000000010003\
+                 00040002000600020009000400060004";
+
+fn print(name: &str, m: &Move, p1: &Move, sides: &[Side], v: Verdict) {
+    let block = |what: &str, content: String| {
+        print!("<!-- by-hand: {name} {what} -->\n{content}<!-- end -->\n");
+    };
+    block("move", move_block(m, sides, v));
+    if name == "P3" {
+        block("line", limit_block(m, p1));
+    } else {
+        block("line", line_block(m));
+        block("sides", sides_block(sides));
+    }
+    block("spans", spans_block(m, sides));
+    block("verdict", verdict_block(sides, v));
+    block("apart", apart_block(m, sides, v));
+    if let Verdict::Contact(_, _, showing) = v {
+        let common = common_point(m, extremes(sides).0, showing);
+        block("moved", moved_block(m, &common));
+        block("showing", showing_block(&common, showing));
+        block("weights", weights_block(&common, showing));
+    }
+    let (frame, fields) = answer(sides, v);
+    block("answer", frame_table(&frame, &fields));
+}
+
+fn main() {
+    let wanted = std::env::args().nth(1).unwrap_or_default();
+    let p1 = read(example(1));
+    for (name, line) in [
+        ("P1", example(1)),
+        ("F", F),
+        ("P3", example(3)),
+        ("P6", example(6)),
+    ] {
+        let m = read(line);
+        let count = m.a.len() + m.b.len();
+        let sides: Vec<Side> = (0..count).map(|k| side(&m, k)).collect();
+        let v = verdict(&m, &sides);
+        match wanted.as_str() {
+            "--print" => print(name, &m, &p1, &sides, v),
+            "--lines" => println!("{line}"),
+            "--answers" => println!("{}", hex(&answer(&sides, v).0)),
+            _ => {
+                eprintln!("usage: by_hand --print | --lines | --answers");
+                std::process::exit(2);
+            }
+        }
+    }
+}
