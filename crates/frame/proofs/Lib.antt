@@ -12,3 +12,4 @@ pub mod Pushing
 pub mod Storing
 pub mod Says
 pub mod PromisedLine
+pub mod Determined

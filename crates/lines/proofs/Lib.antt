@@ -7,3 +7,4 @@ pub mod Beginnings
 pub mod Feeds
 pub mod Program
 pub mod Printed
+pub mod Determined

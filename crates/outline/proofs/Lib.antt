@@ -6,3 +6,4 @@ pub mod Ranges
 pub mod Pairs
 pub mod Places
 pub mod Testing
+pub mod Determined

@@ -18,3 +18,4 @@ pub mod Shown
 pub mod Touch
 pub mod Prefixes
 pub mod Sizes
+pub mod Determined

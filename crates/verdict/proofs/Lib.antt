@@ -17,3 +17,4 @@ pub mod Touching
 pub mod Showed
 pub mod Contacted
 pub mod Promised
+pub mod Determined

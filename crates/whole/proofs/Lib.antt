@@ -11,3 +11,5 @@ pub mod Members
 pub mod Filled
 pub mod Divisors
 pub mod Fractions
+pub mod Determination
+pub mod Determined

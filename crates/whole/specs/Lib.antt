@@ -16,3 +16,4 @@ pub mod Lowest
 pub mod Best
 pub mod Within
 pub mod Time
+pub mod Determined

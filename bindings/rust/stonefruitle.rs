@@ -1,0 +1,336 @@
+//! The checker for Rust programs: safe functions over the static library.
+//!
+//! Standard library only. From the top of the repository:
+//!
+//! ```text
+//! rt staticlib stonefruitle_c
+//! rustc -O --edition 2021 --crate-type rlib -L target/staticlib bindings/rust/stonefruitle.rs --out-dir target
+//! rustc -O --edition 2021 --extern stonefruitle=target/libstonefruitle.rlib PROGRAM.rs
+//! ```
+//!
+//! What each function answers is proved of the library (`crates/stonefruitle_c/src/lib.rt`). Not proved is this file:
+//! the calls below, and that `Answer::of_line` takes an answer line apart as it is put together.
+
+use std::fmt;
+
+#[link(name = "stonefruitle_c", kind = "static")]
+extern "C" {
+    fn stonefruitle_answer_line(
+        line: *const u8,
+        line_length: usize,
+        out: *mut u8,
+        out_length: usize,
+        written: *mut usize,
+    ) -> u8;
+    fn stonefruitle_answer_lists(
+        a: *const i64,
+        a_length: usize,
+        b: *const i64,
+        b_length: usize,
+        vax: i64,
+        vay: i64,
+        vbx: i64,
+        vby: i64,
+        limit: i64,
+        out: *mut u8,
+        out_length: usize,
+        written: *mut usize,
+    ) -> u8;
+    fn stonefruitle_write_move(
+        a: *const i64,
+        a_length: usize,
+        b: *const i64,
+        b_length: usize,
+        vax: i64,
+        vay: i64,
+        vbx: i64,
+        vby: i64,
+        limit: i64,
+        out: *mut u8,
+        out_length: usize,
+        written: *mut usize,
+    ) -> u8;
+    fn stonefruitle_read_line(line: *const u8, line_length: usize) -> u8;
+    fn stonefruitle_test_outline(coordinates: *const i64, length: usize) -> u8;
+}
+
+/// The least room for an answer line and for a move line, 0a included.
+pub const ANSWER_ROOM: usize = 45;
+pub const MOVE_ROOM: usize = 283;
+
+/// Why a move is turned away. Of several that apply, the first is given.
+#[derive(Clone, Copy, Debug, PartialEq, Eq, PartialOrd, Ord)]
+#[repr(u8)]
+pub enum Refusal {
+    /// Too few bytes lent for the line.
+    Room = 1,
+    /// A line that is empty, odd in length, over 282 digits, or with another character than 0-9 and a-f.
+    Digits = 2,
+    /// A line whose first byte is not 01.
+    Kind = 3,
+    /// A count of corners outside 3 to 16, a list of odd length, or a line of another length than its counts ask for.
+    Count = 4,
+    /// The limit is outside 0 to 10,000.
+    Limit = 5,
+    /// A velocity component is outside -10,000 to 10,000.
+    Speed = 6,
+    /// A coordinate is outside -10,000 to 10,000.
+    Place = 7,
+    /// The first outline is not sound.
+    First = 8,
+    /// The second outline is not sound.
+    Second = 9,
+}
+
+impl Refusal {
+    const ALL: [Refusal; 9] = [
+        Refusal::Room,
+        Refusal::Digits,
+        Refusal::Kind,
+        Refusal::Count,
+        Refusal::Limit,
+        Refusal::Speed,
+        Refusal::Place,
+        Refusal::First,
+        Refusal::Second,
+    ];
+
+    pub fn number(self) -> u8 {
+        self as u8
+    }
+
+    /// The refusal of a number from 1 to 9.
+    pub fn of_number(number: u8) -> Option<Refusal> {
+        Refusal::ALL.into_iter().find(|r| r.number() == number)
+    }
+
+    /// What a call returned: no refusal for 0. The library returns no number above 9.
+    fn returned(number: u8) -> Option<Refusal> {
+        match number {
+            0 => None,
+            n => Some(Refusal::of_number(n).expect("a refusal is from 1 to 9")),
+        }
+    }
+}
+
+impl fmt::Display for Refusal {
+    fn fmt(&self, f: &mut fmt::Formatter) -> fmt::Result {
+        f.write_str(match self {
+            Refusal::Room => "too few bytes lent for the line",
+            Refusal::Digits => "the line is not one of whole hexadecimal bytes",
+            Refusal::Kind => "the line is not a move",
+            Refusal::Count => "a count of corners is out of range or does not fit",
+            Refusal::Limit => "the limit is out of range",
+            Refusal::Speed => "a velocity is out of range",
+            Refusal::Place => "a coordinate is out of range",
+            Refusal::First => "the first outline is not sound",
+            Refusal::Second => "the second outline is not sound",
+        })
+    }
+}
+
+impl std::error::Error for Refusal {}
+
+/// A move: the coordinates x, y, x, y, .. of both outlines, their velocities per unit of time, and the time limit.
+#[derive(Clone, Copy, Debug, PartialEq, Eq)]
+pub struct Move<'a> {
+    pub a: &'a [i64],
+    pub b: &'a [i64],
+    pub velocity_a: (i64, i64),
+    pub velocity_b: (i64, i64),
+    pub limit: i64,
+}
+
+/// A time n/d in lowest terms.
+#[derive(Clone, Copy, Debug, PartialEq, Eq)]
+pub struct Time {
+    pub n: u32,
+    pub d: u32,
+}
+
+impl fmt::Display for Time {
+    fn fmt(&self, f: &mut fmt::Formatter) -> fmt::Result {
+        write!(f, "{}/{}", self.n, self.d)
+    }
+}
+
+/// What shows a common point at the first time of contact.
+#[derive(Clone, Copy, Debug, PartialEq, Eq)]
+pub enum Showing {
+    /// This corner of A is inside or on B.
+    CornerOfA(u8),
+    /// This corner of B is inside or on A.
+    CornerOfB(u8),
+    /// This edge of A and this edge of B share a point.
+    Edges(u8, u8),
+}
+
+/// The answer to a move that is not refused.
+#[derive(Clone, Copy, Debug, PartialEq, Eq)]
+pub enum Answer {
+    /// This side keeps the outlines apart for the whole of the move.
+    ClearByOne(u8),
+    /// These two sides together do.
+    ClearByTwo(u8, u8),
+    /// The outlines share a point from the first time to the last.
+    Contact {
+        first: Time,
+        last: Time,
+        /// The side that bears, where contact does not begin at time zero.
+        bearing: Option<u8>,
+        showing: Showing,
+    },
+}
+
+impl Answer {
+    /// The answer or the refusal that an answer line says; none where the line, with or without its 0a, is no answer line.
+    pub fn of_line(line: &[u8]) -> Option<Result<Answer, Refusal>> {
+        let frame = bytes_of(line.strip_suffix(b"\n").unwrap_or(line))?;
+        let number = |at: usize| frame[at..at + 4].iter().fold(0, |n, b| 256 * n + u32::from(*b));
+        let time = |at: usize| Time { n: number(at), d: number(at + 4) };
+        match frame[..] {
+            [0x81, 0x00, k] => Some(Ok(Answer::ClearByOne(k))),
+            [0x81, 0x01, i, j] => Some(Ok(Answer::ClearByTwo(i, j))),
+            [0x81, 0x02, .., bearing, kind, p, q] if frame.len() == 22 => {
+                let showing = match kind {
+                    0 => Showing::CornerOfA(p),
+                    1 => Showing::CornerOfB(p),
+                    2 => Showing::Edges(p, q),
+                    _ => return None,
+                };
+                Some(Ok(Answer::Contact {
+                    first: time(2),
+                    last: time(10),
+                    bearing: if bearing == 0xff { None } else { Some(bearing) },
+                    showing,
+                }))
+            }
+            [0x81, 0xff, r] => Refusal::of_number(r).map(Err),
+            _ => None,
+        }
+    }
+}
+
+/// What a call that writes to a lent buffer answers.
+#[derive(Clone, Copy, Debug, PartialEq, Eq)]
+pub struct Written {
+    pub refusal: Option<Refusal>,
+    /// How many bytes it wrote at the start of the buffer. The others are as they were.
+    pub bytes: usize,
+}
+
+/// The answer to a move line, which stands without its 0a.
+pub fn answer_line(line: &[u8]) -> Result<Answer, Refusal> {
+    let mut out = [0; ANSWER_ROOM];
+    let written = answer_line_into(line, &mut out);
+    said(&out, written)
+}
+
+/// The answer to a move handed in as numbers.
+pub fn answer_lists(m: &Move) -> Result<Answer, Refusal> {
+    let mut out = [0; ANSWER_ROOM];
+    let written = answer_lists_into(m, &mut out);
+    said(&out, written)
+}
+
+/// The line of a move, with its 0a.
+pub fn write_move(m: &Move) -> Result<Vec<u8>, Refusal> {
+    let mut out = [0; MOVE_ROOM];
+    let written = write_move_into(m, &mut out);
+    match written.refusal {
+        Some(refusal) => Err(refusal),
+        None => Ok(out[..written.bytes].to_vec()),
+    }
+}
+
+/// Whether a line, which stands without its 0a, is a move.
+pub fn read_line(line: &[u8]) -> Result<(), Refusal> {
+    // The library reads `line.len()` bytes at the pointer and keeps nothing.
+    accepted(unsafe { stonefruitle_read_line(line.as_ptr(), line.len()) })
+}
+
+/// Whether a list of coordinates x, y, x, y, .. is a sound outline; refused with `Count`, `Place` or `First`.
+pub fn test_outline(coordinates: &[i64]) -> Result<(), Refusal> {
+    accepted(unsafe { stonefruitle_test_outline(coordinates.as_ptr(), coordinates.len()) })
+}
+
+/// The answer line to a move line, into a lent buffer. `Room` writes nothing; the other refusals write the refusal line.
+pub fn answer_line_into(line: &[u8], out: &mut [u8]) -> Written {
+    let mut bytes = 0;
+    // The library reads `line.len()` bytes, writes at most `out.len()` bytes and one count, and keeps nothing;
+    // that the two buffers do not overlap is what their types say.
+    let refusal = unsafe {
+        stonefruitle_answer_line(line.as_ptr(), line.len(), out.as_mut_ptr(), out.len(), &mut bytes)
+    };
+    Written { refusal: Refusal::returned(refusal), bytes }
+}
+
+/// The answer line to a move handed in as numbers, into a lent buffer, likewise.
+pub fn answer_lists_into(m: &Move, out: &mut [u8]) -> Written {
+    let mut bytes = 0;
+    let refusal = unsafe {
+        stonefruitle_answer_lists(
+            m.a.as_ptr(),
+            m.a.len(),
+            m.b.as_ptr(),
+            m.b.len(),
+            m.velocity_a.0,
+            m.velocity_a.1,
+            m.velocity_b.0,
+            m.velocity_b.1,
+            m.limit,
+            out.as_mut_ptr(),
+            out.len(),
+            &mut bytes,
+        )
+    };
+    Written { refusal: Refusal::returned(refusal), bytes }
+}
+
+/// The line of a move, into a lent buffer. Any refusal writes nothing.
+pub fn write_move_into(m: &Move, out: &mut [u8]) -> Written {
+    let mut bytes = 0;
+    let refusal = unsafe {
+        stonefruitle_write_move(
+            m.a.as_ptr(),
+            m.a.len(),
+            m.b.as_ptr(),
+            m.b.len(),
+            m.velocity_a.0,
+            m.velocity_a.1,
+            m.velocity_b.0,
+            m.velocity_b.1,
+            m.limit,
+            out.as_mut_ptr(),
+            out.len(),
+            &mut bytes,
+        )
+    };
+    Written { refusal: Refusal::returned(refusal), bytes }
+}
+
+fn accepted(number: u8) -> Result<(), Refusal> {
+    match Refusal::returned(number) {
+        Some(refusal) => Err(refusal),
+        None => Ok(()),
+    }
+}
+
+fn said(out: &[u8], written: Written) -> Result<Answer, Refusal> {
+    match written.refusal {
+        Some(refusal) => Err(refusal),
+        None => Answer::of_line(&out[..written.bytes]).expect("the library writes answer lines"),
+    }
+}
+
+fn bytes_of(text: &[u8]) -> Option<Vec<u8>> {
+    let digit = |c: u8| match c {
+        b'0'..=b'9' => Some(c - b'0'),
+        b'a'..=b'f' => Some(c - b'a' + 10),
+        _ => None,
+    };
+    if text.len() % 2 != 0 {
+        return None;
+    }
+    text.chunks(2).map(|pair| Some(16 * digit(pair[0])? + digit(pair[1])?)).collect()
+}

@@ -1,0 +1,390 @@
+//! Tests of the linked library through `stonefruitle.rs`: the paper's twelve cases, many moves compared with the
+//! independent program, and the lent bytes that must stay. `tests/linked` builds and runs them.
+
+#[allow(dead_code)]
+#[path = "../../independent/src/checker.rs"]
+mod checker;
+#[allow(dead_code)]
+#[path = "../../independent/src/frame.rs"]
+mod frame;
+#[allow(dead_code)]
+#[path = "../../independent/src/generate.rs"]
+mod generate;
+
+use checker::{is_sound, point, verdict, Point, Verdict};
+use generate::Rng;
+use stonefruitle::*;
+
+const SEED: u64 = 20_261;
+const COUNT: u64 = 50_000;
+
+/// What lent bytes hold beforehand. No line has such a byte.
+const BEFORE: u8 = 0xa5;
+
+// ---------------------------------------------------------------------------
+// The twelve cases
+
+const S: [i64; 8] = [0, 0, 2, 0, 2, 2, 0, 2];
+const BLOCK: [i64; 8] = [0, 0, 10, 0, 10, 10, 0, 10];
+const BAR: [i64; 8] = [-5, -1, 5, -1, 5, 1, -5, 1];
+const POST: [i64; 8] = [-1, -5, 1, -5, 1, 5, -1, 5];
+const STAR: [i64; 10] = [10, 0, -8, 6, 3, -9, 3, 9, -8, -6];
+
+struct Case {
+    name: &'static str,
+    a: Vec<i64>,
+    b: Vec<i64>,
+    velocity_b: (i64, i64),
+    limit: i64,
+    answer: Result<Answer, Refusal>,
+    line: &'static str,
+}
+
+impl Case {
+    fn asked(&self) -> Move<'_> {
+        Move { a: &self.a, b: &self.b, velocity_a: (0, 0), velocity_b: self.velocity_b, limit: self.limit }
+    }
+}
+
+fn square(x: i64, y: i64) -> Vec<i64> {
+    S.chunks(2).flat_map(|c| [c[0] + x, c[1] + y]).collect()
+}
+
+fn contact(first: (u32, u32), last: (u32, u32), bearing: Option<u8>, showing: Showing) -> Result<Answer, Refusal> {
+    let time = |(n, d)| Time { n, d };
+    Ok(Answer::Contact { first: time(first), last: time(last), bearing, showing })
+}
+
+fn cases() -> Vec<Case> {
+    use Showing::*;
+    let case = |name, a: &[i64], b: Vec<i64>, velocity_b, limit, answer, line| Case {
+        name,
+        a: a.to_vec(),
+        b,
+        velocity_b,
+        limit,
+        answer,
+        line,
+    };
+    vec![
+        case("P1", &S, square(5, 0), (-1, 0), 10, contact((3, 1), (7, 1), Some(1), CornerOfA(1)), "81020000000300000001000000070000000101000100"),
+        case("P2", &S, square(5, 0), (-1, 0), 3, contact((3, 1), (3, 1), Some(1), CornerOfA(1)), "81020000000300000001000000030000000101000100"),
+        case("P3", &S, square(5, 0), (-1, 0), 2, Ok(Answer::ClearByOne(1)), "810001"),
+        case("P4", &S, square(5, 0), (1, 0), 10, Ok(Answer::ClearByOne(1)), "810001"),
+        case("P5", &S, square(5, 0), (-2, 0), 10, contact((3, 2), (7, 2), Some(1), CornerOfA(1)), "81020000000300000002000000070000000201000100"),
+        case("P6", &S, square(5, 4), (-1, -3), 10, Ok(Answer::ClearByTwo(1, 0)), "81010100"),
+        case("P7", &S, square(5, 4), (-1, -1), 10, contact((3, 1), (6, 1), Some(1), CornerOfA(2)), "81020000000300000001000000060000000101000200"),
+        case("P8", &S, square(5, 5), (-1, -1), 10, contact((3, 1), (7, 1), Some(0), CornerOfA(2)), "81020000000300000001000000070000000100000200"),
+        case("P9", &S, square(2, 0), (0, 0), 10, contact((0, 1), (10, 1), None, CornerOfA(1)), "810200000000000000010000000a00000001ff000100"),
+        case("P10", &BLOCK, square(4, 4), (0, 0), 10, contact((0, 1), (10, 1), None, CornerOfB(0)), "810200000000000000010000000a00000001ff010000"),
+        case("P11", &BAR, POST.to_vec(), (0, 0), 0, contact((0, 1), (0, 1), None, Edges(0, 1)), "810200000000000000010000000000000001ff020001"),
+        case("P12", &STAR, S.to_vec(), (0, 0), 10, Err(Refusal::First), "81ff08"),
+    ]
+}
+
+fn move_lines() -> Vec<&'static [u8]> {
+    include_bytes!("../../examples/moves.txt").split(|b| *b == b'\n').filter(|l| !l.is_empty()).collect()
+}
+
+#[test]
+fn twelve_cases_from_lists() {
+    for case in cases() {
+        let (written, out) = asked(|out| answer_lists_into(&case.asked(), out), ANSWER_ROOM);
+        assert_answered(case.name, written, &out, case.line.as_bytes(), number(case.answer));
+        assert_eq!(answer_lists(&case.asked()), case.answer, "{}", case.name);
+    }
+}
+
+#[test]
+fn twelve_cases_from_lines() {
+    let lines = move_lines();
+    assert_eq!(lines.len(), cases().len());
+    for (case, line) in cases().iter().zip(lines) {
+        let (written, out) = asked(|out| answer_line_into(line, out), ANSWER_ROOM);
+        assert_answered(case.name, written, &out, case.line.as_bytes(), number(case.answer));
+        assert_eq!(answer_line(line), case.answer, "{}", case.name);
+        assert_eq!(read_line(line).err(), case.answer.err(), "{}", case.name);
+        let closed = [line, b"\n"].concat();
+        assert_eq!(write_move(&case.asked()), case.answer.map(|_| closed), "{}", case.name);
+    }
+}
+
+#[test]
+fn outlines_of_the_cases() {
+    for case in cases() {
+        assert_eq!(test_outline(&case.a).err(), case.answer.err(), "{}", case.name);
+        assert_eq!(test_outline(&case.b), Ok(()), "{}", case.name);
+    }
+}
+
+// ---------------------------------------------------------------------------
+// Helpers
+
+fn number<T>(answer: Result<T, Refusal>) -> u8 {
+    answer.map_or_else(Refusal::number, |_| 0)
+}
+
+/// A call with so many bytes lent, and the bytes afterwards.
+fn asked(call: impl Fn(&mut [u8]) -> Written, room: usize) -> (Written, Vec<u8>) {
+    let mut out = vec![BEFORE; room];
+    let written = call(&mut out);
+    (written, out)
+}
+
+/// The line with its 0a stands at the start, the bytes after it as they were.
+fn assert_answered(what: &str, written: Written, out: &[u8], line: &[u8], refusal: u8) {
+    assert_eq!(written.refusal.map_or(0, Refusal::number), refusal, "{what}");
+    let closed = [line, b"\n"].concat();
+    assert_eq!(written.bytes, closed.len(), "{what}");
+    assert_eq!(shown(&out[..written.bytes]), shown(&closed), "{what}");
+    assert!(out[written.bytes..].iter().all(|b| *b == BEFORE), "{what}: a byte after the line changed");
+}
+
+fn assert_nothing_written(what: &str, written: Written, out: &[u8], refusal: u8) {
+    assert_eq!(written.refusal.map_or(0, Refusal::number), refusal, "{what}");
+    assert_eq!(written.bytes, 0, "{what}");
+    assert!(out.iter().all(|b| *b == BEFORE), "{what}: a byte changed");
+}
+
+fn shown(bytes: &[u8]) -> String {
+    String::from_utf8_lossy(bytes).into_owned()
+}
+
+/// A move that owns its lists.
+#[derive(Clone, Debug)]
+struct Lists {
+    a: Vec<i64>,
+    b: Vec<i64>,
+    velocity_a: (i64, i64),
+    velocity_b: (i64, i64),
+    limit: i64,
+}
+
+impl Lists {
+    fn of(m: &checker::Move) -> Lists {
+        let list = |corners: &[Point]| corners.iter().flat_map(|p| [p.x as i64, p.y as i64]).collect();
+        let pair = |p: Point| (p.x as i64, p.y as i64);
+        Lists {
+            a: list(&m.a),
+            b: list(&m.b),
+            velocity_a: pair(m.velocity_a),
+            velocity_b: pair(m.velocity_b),
+            limit: m.limit as i64,
+        }
+    }
+
+    fn asked(&self) -> Move<'_> {
+        Move {
+            a: &self.a,
+            b: &self.b,
+            velocity_a: self.velocity_a,
+            velocity_b: self.velocity_b,
+            limit: self.limit,
+        }
+    }
+}
+
+// ---------------------------------------------------------------------------
+// What is expected of lists, from the paper and the independent verdict
+
+fn in_range(n: i64) -> bool {
+    (-10_000..=10_000).contains(&n)
+}
+
+fn counted(list: &[i64]) -> bool {
+    list.len() % 2 == 0 && (3..=16).contains(&(list.len() / 2))
+}
+
+fn corners(list: &[i64]) -> Vec<Point> {
+    list.chunks(2).map(|c| point(c[0].into(), c[1].into())).collect()
+}
+
+fn expected(m: &Lists) -> Result<checker::Move, u8> {
+    let pair = |(x, y): (i64, i64)| point(x.into(), y.into());
+    let speeds = [m.velocity_a.0, m.velocity_a.1, m.velocity_b.0, m.velocity_b.1];
+    if !counted(&m.a) || !counted(&m.b) {
+        return Err(4);
+    }
+    if !(0..=10_000).contains(&m.limit) {
+        return Err(5);
+    }
+    if !speeds.into_iter().all(in_range) {
+        return Err(6);
+    }
+    if !m.a.iter().chain(&m.b).all(|n| in_range(*n)) {
+        return Err(7);
+    }
+    if !is_sound(&corners(&m.a)) {
+        return Err(8);
+    }
+    if !is_sound(&corners(&m.b)) {
+        return Err(9);
+    }
+    Ok(checker::Move {
+        limit: m.limit.into(),
+        velocity_a: pair(m.velocity_a),
+        velocity_b: pair(m.velocity_b),
+        a: corners(&m.a),
+        b: corners(&m.b),
+    })
+}
+
+fn expected_of_outline(list: &[i64]) -> u8 {
+    if !counted(list) {
+        4
+    } else if !list.iter().all(|n| in_range(*n)) {
+        7
+    } else if !is_sound(&corners(list)) {
+        8
+    } else {
+        0
+    }
+}
+
+/// Holds every call that takes lists to what is expected.
+fn check_lists(what: &str, m: &Lists, extra: usize) -> Result<Verdict, u8> {
+    let expected = expected(m);
+    let refusal = expected.as_ref().err().copied().unwrap_or(0);
+    let answer = expected.as_ref().map(verdict).map_err(|r| *r);
+
+    let (written, out) = asked(|out| answer_lists_into(&m.asked(), out), ANSWER_ROOM + extra);
+    assert_answered(what, written, &out, &frame::write_answer(&answer), refusal);
+
+    let (written, out) = asked(|out| write_move_into(&m.asked(), out), MOVE_ROOM + extra);
+    match &expected {
+        Ok(moved) => assert_answered(what, written, &out, &frame::write_move(moved), 0),
+        Err(refusal) => assert_nothing_written(what, written, &out, *refusal),
+    }
+
+    for list in [&m.a, &m.b] {
+        assert_eq!(number(test_outline(list)), expected_of_outline(list), "{what}");
+    }
+    answer
+}
+
+// ---------------------------------------------------------------------------
+// Many moves
+
+/// Lines of every class, the damaged among them; those that are moves also as lists.
+#[test]
+fn random_lines() {
+    let mut counts = [0; 10];
+    for place in 0..COUNT {
+        let line = generate::line(SEED, place, generate::class_of_place(place));
+        let what = format!("seed {SEED}, place {place}: {}", shown(&line));
+        let answer = frame::answer(&line);
+        let refusal = answer.as_ref().err().copied().unwrap_or(0);
+        counts[refusal as usize] += 1;
+
+        let extra = place as usize % 40;
+        let (written, out) = asked(|out| answer_line_into(&line, out), ANSWER_ROOM + extra);
+        assert_answered(&what, written, &out, &frame::write_answer(&answer), refusal);
+        assert_eq!(number(read_line(&line)), refusal, "{what}");
+        assert_eq!(number(answer_line(&line)), refusal, "{what}");
+
+        if let Ok(m) = frame::read_move(&line) {
+            assert_eq!(check_lists(&what, &Lists::of(&m), extra), answer, "{what}");
+        }
+    }
+    println!("random lines by refusal: {counts:?}");
+    assert!(counts[2..].iter().all(|n| *n > 0), "a refusal did not come up: {counts:?}");
+}
+
+/// Lists with something changed: what no line can say is here, as an odd length or a number of 64 bits.
+#[test]
+fn random_lists() {
+    let mut counts = [0; 10];
+    for place in 0..COUNT {
+        let mut rng = Rng::for_line(SEED + 1, place);
+        let class = generate::CLASSES[(place % 8) as usize].0;
+        let mut m = Lists::of(&generate::sound_move(&mut rng, class));
+        for _ in 0..rng.range(0, 2) {
+            change(&mut rng, &mut m);
+        }
+        let what = format!("seed {}, place {place}: {m:?}", SEED + 1);
+        let answer = check_lists(&what, &m, place as usize % 40);
+        counts[answer.err().unwrap_or(0) as usize] += 1;
+    }
+    println!("random lists by refusal: {counts:?}");
+    assert!(counts[4..].iter().all(|n| *n > 0), "a refusal did not come up: {counts:?}");
+}
+
+fn any_number(rng: &mut Rng) -> i64 {
+    let chosen = [10_000, -10_000, 10_001, -10_001, 0, 65_536, i64::MAX, i64::MIN];
+    match rng.range(0, 3) {
+        0 => rng.range(-11_000, 11_000) as i64,
+        1 => rng.next() as i64,
+        _ => chosen[rng.range(0, 7) as usize],
+    }
+}
+
+fn change(rng: &mut Rng, m: &mut Lists) {
+    let list = if rng.range(0, 1) == 0 { &mut m.a } else { &mut m.b };
+    if list.is_empty() {
+        return;
+    }
+    let at = rng.range(0, list.len() as i128 - 1) as usize;
+    match rng.range(0, 9) {
+        0 => list.truncate(at),
+        1 => list.push(any_number(rng)),
+        2 => {
+            let length = rng.range(0, 40) as usize;
+            list.resize(length, 1);
+        }
+        3 => m.limit = any_number(rng),
+        4 => m.velocity_a.0 = any_number(rng),
+        5 => m.velocity_b.1 = any_number(rng),
+        6 => list[at] = any_number(rng),
+        7 => list.swap(at, 0),
+        8 => list.reverse(),
+        _ => list[at] += rng.range(-2, 2) as i64,
+    }
+}
+
+// ---------------------------------------------------------------------------
+// Room
+
+/// Refusal 1 comes before every other and writes nothing; with the least room a call writes.
+#[test]
+fn room() {
+    let damaged: [&[u8]; 4] = [b"", b"0", b"02", b"not a line"];
+    let lines = move_lines();
+    for line in lines.iter().copied().chain(damaged) {
+        for room in 0..ANSWER_ROOM {
+            let (written, out) = asked(|out| answer_line_into(line, out), room);
+            assert_nothing_written(&shown(line), written, &out, 1);
+        }
+        let (written, out) = asked(|out| answer_line_into(line, out), ANSWER_ROOM);
+        let answer = frame::answer(line);
+        assert_answered(&shown(line), written, &out, &frame::write_answer(&answer), answer.err().unwrap_or(0));
+    }
+    for case in cases() {
+        let m = case.asked();
+        for room in 0..ANSWER_ROOM {
+            let (written, out) = asked(|out| answer_lists_into(&m, out), room);
+            assert_nothing_written(case.name, written, &out, 1);
+        }
+        for room in 0..MOVE_ROOM {
+            let (written, out) = asked(|out| write_move_into(&m, out), room);
+            assert_nothing_written(case.name, written, &out, 1);
+        }
+    }
+}
+
+#[test]
+fn empty_lists() {
+    let none = Move { a: &[], b: &[], velocity_a: (0, 0), velocity_b: (0, 0), limit: 0 };
+    assert_eq!(answer_lists(&none), Err(Refusal::Count));
+    assert_eq!(write_move(&none), Err(Refusal::Count));
+    assert_eq!(test_outline(&[]), Err(Refusal::Count));
+    assert_eq!(answer_line(&[]), Err(Refusal::Digits));
+    assert_eq!(read_line(&[]), Err(Refusal::Digits));
+}
+
+#[test]
+fn other_lines_are_no_answers() {
+    let lines = ["", "81", "8100", "810001 ", "8102", "81ff00", "81ff0a", "820001", "81000101"];
+    for line in lines {
+        assert_eq!(Answer::of_line(line.as_bytes()), None, "{line}");
+    }
+}

@@ -1,0 +1,24 @@
+-- The contracts of the crate's public functions, as the source has them, are determined: two outcomes that one allows for the same input show the same result and the same lent bytes.
+use mathlib.Core.List.{List}
+use Prim.Native.Nat.{ℕ}
+use contract.Lifetimes.{Lfts}
+use denote.Ref.{now}
+use Rattle.whole.specs.Determined.{Determined}
+use Rattle.whole.proofs.Determination.{determined, both}
+use Rattle.checker.specs.declared.Written.{Written}
+use Rattle.checker.proofs.answer_line.Reads as answer-line
+use Rattle.checker.proofs.answer_lists.Reads as answer-lists
+use Rattle.checker.proofs.write_move.Reads as write-move
+use Rattle.checker.proofs.read_line.Reads as read-line
+
+pub answer-line-determined : (κs : Lfts 2) → Determined {Y = Written × List ℕ} (answer-line.Learnt κs) (λ r e. (r, now (e .1 .0)))
+answer-line-determined κs = determined (λ a r e p. both (p .0) (p .1))
+
+pub answer-lists-determined : (κs : Lfts 3) → Determined {Y = Written × List ℕ} (answer-lists.Learnt κs) (λ r e. (r, now (e .1 .1 .1 .1 .1 .0)))
+answer-lists-determined κs = determined (λ a r e p. both (p .0) (p .1))
+
+pub write-move-determined : (κs : Lfts 3) → Determined {Y = Written × List ℕ} (write-move.Learnt κs) (λ r e. (r, now (e .1 .1 .1 .1 .1 .0)))
+write-move-determined κs = determined (λ a r e p. both (p .0) (p .1))
+
+pub read-line-determined : (κs : Lfts 1) → Determined (read-line.Learnt κs) (λ r e. r)
+read-line-determined κs = determined (λ a r e p. p)

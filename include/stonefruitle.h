@@ -1,0 +1,122 @@
+/*
+ * Stonefruitle: whether two moving convex outlines meet, and why.
+ *
+ * Link with libstonefruitle_c.a (`rt staticlib stonefruitle_c` writes it to
+ * target/staticlib). Each function is proved to meet its contract, which says
+ * of every input what is returned and what stands in each lent buffer
+ * afterwards (crates/stonefruitle_c/src/lib.rt). None keeps anything between
+ * calls, allocates or takes a lock, so calls may run side by side.
+ *
+ * Buffers. A buffer is handed in as a pointer and a length in elements. The
+ * pointer is not null and is aligned for its elements, also where the length
+ * is 0. Inputs are never written. An output buffer may not overlap an input or
+ * another output.
+ *
+ * Numbers. An outline is a list of coordinates x, y, x, y, .. of its 3 to 16
+ * corners, counterclockwise, so 6 to 32 numbers. Coordinates and velocity
+ * components are from -10000 to 10000, the limit is from 0 to 10000. Numbers
+ * outside are refused; no input of any kind is undefined.
+ *
+ * Lines. A move line or an answer line is hexadecimal text, closed by byte 0a
+ * where it is written and handed in without it.
+ *
+ * Each function returns the number of its refusal, 0 for none. Of several that
+ * apply the first in this list is returned.
+ */
+#ifndef STONEFRUITLE_H
+#define STONEFRUITLE_H
+
+#include <stddef.h>
+#include <stdint.h>
+
+#define STONEFRUITLE_NONE 0   /* no refusal */
+#define STONEFRUITLE_ROOM 1   /* too few bytes lent for the line */
+#define STONEFRUITLE_DIGITS 2 /* a line that is empty, odd in length, over 282 digits, or with another character than 0-9 and a-f */
+#define STONEFRUITLE_KIND 3   /* a line whose first byte is not 01 */
+#define STONEFRUITLE_COUNT 4  /* a count of corners outside 3 to 16, a list of odd length, or a line of another length than its counts ask for */
+#define STONEFRUITLE_LIMIT 5  /* the limit is outside 0 to 10000 */
+#define STONEFRUITLE_SPEED 6  /* a velocity component is outside -10000 to 10000 */
+#define STONEFRUITLE_PLACE 7  /* a coordinate is outside -10000 to 10000 */
+#define STONEFRUITLE_FIRST 8  /* the first outline is not sound */
+#define STONEFRUITLE_SECOND 9 /* the second outline is not sound */
+
+/* The least room for an answer line and for a move line, 0a included. */
+#define STONEFRUITLE_ANSWER_ROOM 45
+#define STONEFRUITLE_MOVE_ROOM 283
+
+#ifdef __cplusplus
+extern "C" {
+#endif
+
+/*
+ * The answer to a move line.
+ *
+ * Takes the line without its 0a, a buffer for the answer line and a place for
+ * its length. Refusals: 1 where out_length is under 45, then 2 to 9.
+ *
+ * Without a refusal, the first *written bytes of out are the answer line with
+ * its 0a: 81 00 k, 81 01 i j or 81 02 n d n d b s p q in hexadecimal, so 7, 9
+ * or 45 bytes. With refusal r from 2 to 9 they are the 7 bytes of 81 ff r with
+ * 0a. With refusal 1 nothing is written to out and *written is 0. The bytes of
+ * out after the line stay as they were.
+ */
+uint8_t stonefruitle_answer_line(const uint8_t *line, size_t line_length,
+                                 uint8_t *out, size_t out_length,
+                                 size_t *written);
+
+/*
+ * The answer to a move handed in as numbers.
+ *
+ * Takes the coordinates of both outlines, the velocity of each, the limit, a
+ * buffer for the answer line and a place for its length. a_length and b_length
+ * count numbers, so twice the corners. Refusals: 1 where out_length is under
+ * 45, then 4 to 9.
+ *
+ * out and *written are left as by stonefruitle_answer_line.
+ */
+uint8_t stonefruitle_answer_lists(const int64_t *a, size_t a_length,
+                                  const int64_t *b, size_t b_length,
+                                  int64_t vax, int64_t vay,
+                                  int64_t vbx, int64_t vby, int64_t limit,
+                                  uint8_t *out, size_t out_length,
+                                  size_t *written);
+
+/*
+ * The line of a move handed in as numbers.
+ *
+ * Takes what stonefruitle_answer_lists takes. Refusals: 1 where out_length is
+ * under 283, then 4 to 9.
+ *
+ * Without a refusal, the first *written bytes of out, 75 to 283, are the move
+ * line with its 0a, and the bytes after it stay as they were. With a refusal
+ * nothing is written to out and *written is 0.
+ */
+uint8_t stonefruitle_write_move(const int64_t *a, size_t a_length,
+                                const int64_t *b, size_t b_length,
+                                int64_t vax, int64_t vay,
+                                int64_t vbx, int64_t vby, int64_t limit,
+                                uint8_t *out, size_t out_length,
+                                size_t *written);
+
+/*
+ * Whether a line is a move.
+ *
+ * Takes the line without its 0a and writes nothing. Refusals: 2 to 9.
+ */
+uint8_t stonefruitle_read_line(const uint8_t *line, size_t line_length);
+
+/*
+ * Whether an outline is sound.
+ *
+ * Takes the outline's coordinates (length counts numbers) and writes nothing.
+ * Refusals: 4 for the count of numbers, 7 for a coordinate out of range, 8
+ * where the outline is not sound: some corner does not lie strictly to the
+ * left of an edge that it is no end of.
+ */
+uint8_t stonefruitle_test_outline(const int64_t *coordinates, size_t length);
+
+#ifdef __cplusplus
+}
+#endif
+
+#endif
