@@ -44,6 +44,16 @@
 #define STONEFRUITLE_ANSWER_ROOM 45
 #define STONEFRUITLE_MOVE_ROOM 283
 
+/* How many numbers stonefruitle_read_move hands out, and where they stand. */
+#define STONEFRUITLE_NUMBERS 71
+#define STONEFRUITLE_AT_LIMIT 0
+#define STONEFRUITLE_AT_VELOCITY_A 1
+#define STONEFRUITLE_AT_VELOCITY_B 3
+#define STONEFRUITLE_AT_COUNT_A 5
+#define STONEFRUITLE_AT_COUNT_B 6
+#define STONEFRUITLE_AT_A 7
+#define STONEFRUITLE_AT_B 39
+
 #ifdef __cplusplus
 extern "C" {
 #endif
@@ -104,6 +114,17 @@ uint8_t stonefruitle_write_move(const int64_t *a, size_t a_length,
  * Takes the line without its 0a and writes nothing. Refusals: 2 to 9.
  */
 uint8_t stonefruitle_read_line(const uint8_t *line, size_t line_length);
+
+/*
+ * The move of a line, as numbers.
+ *
+ * Takes the line without its 0a and a place for 71 numbers, all of which are
+ * written: the limit; the velocity x, y of A; that of B; the count of corners
+ * of A; that of B; x, y of A's sixteen corner places; those of B's. Places past
+ * the count are zero. Refusals: 2 to 9, and then all 71 numbers are zero.
+ */
+uint8_t stonefruitle_read_move(const uint8_t *line, size_t line_length,
+                               int64_t numbers[STONEFRUITLE_NUMBERS]);
 
 /*
  * Whether an outline is sound.

@@ -19,7 +19,10 @@ use std::time::{Duration, Instant};
 use stonefruitle::{answer_lists_into, Move, ANSWER_ROOM};
 
 fn list(corners: &[Point]) -> Vec<i64> {
-    corners.iter().flat_map(|p| [p.x as i64, p.y as i64]).collect()
+    corners
+        .iter()
+        .flat_map(|p| [p.x as i64, p.y as i64])
+        .collect()
 }
 
 fn main() {
@@ -34,7 +37,13 @@ fn main() {
         .map(|place| {
             let m = sound_move(&mut Rng::for_line(seed, place), Class::Full);
             let pair = |p: Point| (p.x as i64, p.y as i64);
-            (list(&m.a), list(&m.b), pair(m.velocity_a), pair(m.velocity_b), m.limit as i64)
+            (
+                list(&m.a),
+                list(&m.b),
+                pair(m.velocity_a),
+                pair(m.velocity_b),
+                m.limit as i64,
+            )
         })
         .collect();
 
@@ -44,7 +53,13 @@ fn main() {
         contacts = 0;
         let start = Instant::now();
         for (a, b, velocity_a, velocity_b, limit) in &moves {
-            let m = Move { a, b, velocity_a: *velocity_a, velocity_b: *velocity_b, limit: *limit };
+            let m = Move {
+                a,
+                b,
+                velocity_a: *velocity_a,
+                velocity_b: *velocity_b,
+                limit: *limit,
+            };
             let mut out = [0; ANSWER_ROOM];
             let written = answer_lists_into(&m, &mut out);
             assert!(written.refusal.is_none());

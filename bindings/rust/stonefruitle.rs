@@ -51,12 +51,16 @@ extern "C" {
         written: *mut usize,
     ) -> u8;
     fn stonefruitle_read_line(line: *const u8, line_length: usize) -> u8;
+    fn stonefruitle_read_move(line: *const u8, line_length: usize, numbers: *mut i64) -> u8;
     fn stonefruitle_test_outline(coordinates: *const i64, length: usize) -> u8;
 }
 
 /// The least room for an answer line and for a move line, 0a included.
 pub const ANSWER_ROOM: usize = 45;
 pub const MOVE_ROOM: usize = 283;
+
+/// How many numbers a read move is.
+pub const NUMBERS: usize = 71;
 
 /// Why a move is turned away. Of several that apply, the first is given.
 #[derive(Clone, Copy, Debug, PartialEq, Eq, PartialOrd, Ord)]
@@ -141,6 +145,28 @@ pub struct Move<'a> {
     pub limit: i64,
 }
 
+/// A move that was read from a line.
+#[derive(Clone, Debug, PartialEq, Eq)]
+pub struct ReadMove {
+    pub a: Vec<i64>,
+    pub b: Vec<i64>,
+    pub velocity_a: (i64, i64),
+    pub velocity_b: (i64, i64),
+    pub limit: i64,
+}
+
+impl ReadMove {
+    pub fn as_move(&self) -> Move<'_> {
+        Move {
+            a: &self.a,
+            b: &self.b,
+            velocity_a: self.velocity_a,
+            velocity_b: self.velocity_b,
+            limit: self.limit,
+        }
+    }
+}
+
 /// A time n/d in lowest terms.
 #[derive(Clone, Copy, Debug, PartialEq, Eq)]
 pub struct Time {
@@ -186,8 +212,15 @@ impl Answer {
     /// The answer or the refusal that an answer line says; none where the line, with or without its 0a, is no answer line.
     pub fn of_line(line: &[u8]) -> Option<Result<Answer, Refusal>> {
         let frame = bytes_of(line.strip_suffix(b"\n").unwrap_or(line))?;
-        let number = |at: usize| frame[at..at + 4].iter().fold(0, |n, b| 256 * n + u32::from(*b));
-        let time = |at: usize| Time { n: number(at), d: number(at + 4) };
+        let number = |at: usize| {
+            frame[at..at + 4]
+                .iter()
+                .fold(0, |n, b| 256 * n + u32::from(*b))
+        };
+        let time = |at: usize| Time {
+            n: number(at),
+            d: number(at + 4),
+        };
         match frame[..] {
             [0x81, 0x00, k] => Some(Ok(Answer::ClearByOne(k))),
             [0x81, 0x01, i, j] => Some(Ok(Answer::ClearByTwo(i, j))),
@@ -249,9 +282,35 @@ pub fn read_line(line: &[u8]) -> Result<(), Refusal> {
     accepted(unsafe { stonefruitle_read_line(line.as_ptr(), line.len()) })
 }
 
+/// The move of a line, which stands without its 0a.
+pub fn read_move(line: &[u8]) -> Result<ReadMove, Refusal> {
+    let mut numbers = [0; NUMBERS];
+    match read_move_into(line, &mut numbers) {
+        Some(refusal) => Err(refusal),
+        None => {
+            let list = |from: usize, count: i64| numbers[from..from + 2 * count as usize].to_vec();
+            Ok(ReadMove {
+                a: list(7, numbers[5]),
+                b: list(39, numbers[6]),
+                velocity_a: (numbers[1], numbers[2]),
+                velocity_b: (numbers[3], numbers[4]),
+                limit: numbers[0],
+            })
+        }
+    }
+}
+
 /// Whether a list of coordinates x, y, x, y, .. is a sound outline; refused with `Count`, `Place` or `First`.
 pub fn test_outline(coordinates: &[i64]) -> Result<(), Refusal> {
     accepted(unsafe { stonefruitle_test_outline(coordinates.as_ptr(), coordinates.len()) })
+}
+
+/// The move of a line as 71 numbers, all of which are written: limit, velocity of A, velocity of B, count of A, count of B,
+/// the coordinates of A's sixteen places, those of B's. Where the line is refused they are all zero.
+pub fn read_move_into(line: &[u8], numbers: &mut [i64; NUMBERS]) -> Option<Refusal> {
+    Refusal::returned(unsafe {
+        stonefruitle_read_move(line.as_ptr(), line.len(), numbers.as_mut_ptr())
+    })
 }
 
 /// The answer line to a move line, into a lent buffer. `Room` writes nothing; the other refusals write the refusal line.
@@ -260,9 +319,18 @@ pub fn answer_line_into(line: &[u8], out: &mut [u8]) -> Written {
     // The library reads `line.len()` bytes, writes at most `out.len()` bytes and one count, and keeps nothing;
     // that the two buffers do not overlap is what their types say.
     let refusal = unsafe {
-        stonefruitle_answer_line(line.as_ptr(), line.len(), out.as_mut_ptr(), out.len(), &mut bytes)
+        stonefruitle_answer_line(
+            line.as_ptr(),
+            line.len(),
+            out.as_mut_ptr(),
+            out.len(),
+            &mut bytes,
+        )
     };
-    Written { refusal: Refusal::returned(refusal), bytes }
+    Written {
+        refusal: Refusal::returned(refusal),
+        bytes,
+    }
 }
 
 /// The answer line to a move handed in as numbers, into a lent buffer, likewise.
@@ -284,7 +352,10 @@ pub fn answer_lists_into(m: &Move, out: &mut [u8]) -> Written {
             &mut bytes,
         )
     };
-    Written { refusal: Refusal::returned(refusal), bytes }
+    Written {
+        refusal: Refusal::returned(refusal),
+        bytes,
+    }
 }
 
 /// The line of a move, into a lent buffer. Any refusal writes nothing.
@@ -306,7 +377,10 @@ pub fn write_move_into(m: &Move, out: &mut [u8]) -> Written {
             &mut bytes,
         )
     };
-    Written { refusal: Refusal::returned(refusal), bytes }
+    Written {
+        refusal: Refusal::returned(refusal),
+        bytes,
+    }
 }
 
 fn accepted(number: u8) -> Result<(), Refusal> {
@@ -332,5 +406,7 @@ fn bytes_of(text: &[u8]) -> Option<Vec<u8>> {
     if text.len() % 2 != 0 {
         return None;
     }
-    text.chunks(2).map(|pair| Some(16 * digit(pair[0])? + digit(pair[1])?)).collect()
+    text.chunks(2)
+        .map(|pair| Some(16 * digit(pair[0])? + digit(pair[1])?))
+        .collect()
 }

@@ -42,7 +42,13 @@ struct Case {
 
 impl Case {
     fn asked(&self) -> Move<'_> {
-        Move { a: &self.a, b: &self.b, velocity_a: (0, 0), velocity_b: self.velocity_b, limit: self.limit }
+        Move {
+            a: &self.a,
+            b: &self.b,
+            velocity_a: (0, 0),
+            velocity_b: self.velocity_b,
+            limit: self.limit,
+        }
     }
 }
 
@@ -50,9 +56,19 @@ fn square(x: i64, y: i64) -> Vec<i64> {
     S.chunks(2).flat_map(|c| [c[0] + x, c[1] + y]).collect()
 }
 
-fn contact(first: (u32, u32), last: (u32, u32), bearing: Option<u8>, showing: Showing) -> Result<Answer, Refusal> {
+fn contact(
+    first: (u32, u32),
+    last: (u32, u32),
+    bearing: Option<u8>,
+    showing: Showing,
+) -> Result<Answer, Refusal> {
     let time = |(n, d)| Time { n, d };
-    Ok(Answer::Contact { first: time(first), last: time(last), bearing, showing })
+    Ok(Answer::Contact {
+        first: time(first),
+        last: time(last),
+        bearing,
+        showing,
+    })
 }
 
 fn cases() -> Vec<Case> {
@@ -67,30 +83,135 @@ fn cases() -> Vec<Case> {
         line,
     };
     vec![
-        case("P1", &S, square(5, 0), (-1, 0), 10, contact((3, 1), (7, 1), Some(1), CornerOfA(1)), "81020000000300000001000000070000000101000100"),
-        case("P2", &S, square(5, 0), (-1, 0), 3, contact((3, 1), (3, 1), Some(1), CornerOfA(1)), "81020000000300000001000000030000000101000100"),
-        case("P3", &S, square(5, 0), (-1, 0), 2, Ok(Answer::ClearByOne(1)), "810001"),
-        case("P4", &S, square(5, 0), (1, 0), 10, Ok(Answer::ClearByOne(1)), "810001"),
-        case("P5", &S, square(5, 0), (-2, 0), 10, contact((3, 2), (7, 2), Some(1), CornerOfA(1)), "81020000000300000002000000070000000201000100"),
-        case("P6", &S, square(5, 4), (-1, -3), 10, Ok(Answer::ClearByTwo(1, 0)), "81010100"),
-        case("P7", &S, square(5, 4), (-1, -1), 10, contact((3, 1), (6, 1), Some(1), CornerOfA(2)), "81020000000300000001000000060000000101000200"),
-        case("P8", &S, square(5, 5), (-1, -1), 10, contact((3, 1), (7, 1), Some(0), CornerOfA(2)), "81020000000300000001000000070000000100000200"),
-        case("P9", &S, square(2, 0), (0, 0), 10, contact((0, 1), (10, 1), None, CornerOfA(1)), "810200000000000000010000000a00000001ff000100"),
-        case("P10", &BLOCK, square(4, 4), (0, 0), 10, contact((0, 1), (10, 1), None, CornerOfB(0)), "810200000000000000010000000a00000001ff010000"),
-        case("P11", &BAR, POST.to_vec(), (0, 0), 0, contact((0, 1), (0, 1), None, Edges(0, 1)), "810200000000000000010000000000000001ff020001"),
-        case("P12", &STAR, S.to_vec(), (0, 0), 10, Err(Refusal::First), "81ff08"),
+        case(
+            "P1",
+            &S,
+            square(5, 0),
+            (-1, 0),
+            10,
+            contact((3, 1), (7, 1), Some(1), CornerOfA(1)),
+            "81020000000300000001000000070000000101000100",
+        ),
+        case(
+            "P2",
+            &S,
+            square(5, 0),
+            (-1, 0),
+            3,
+            contact((3, 1), (3, 1), Some(1), CornerOfA(1)),
+            "81020000000300000001000000030000000101000100",
+        ),
+        case(
+            "P3",
+            &S,
+            square(5, 0),
+            (-1, 0),
+            2,
+            Ok(Answer::ClearByOne(1)),
+            "810001",
+        ),
+        case(
+            "P4",
+            &S,
+            square(5, 0),
+            (1, 0),
+            10,
+            Ok(Answer::ClearByOne(1)),
+            "810001",
+        ),
+        case(
+            "P5",
+            &S,
+            square(5, 0),
+            (-2, 0),
+            10,
+            contact((3, 2), (7, 2), Some(1), CornerOfA(1)),
+            "81020000000300000002000000070000000201000100",
+        ),
+        case(
+            "P6",
+            &S,
+            square(5, 4),
+            (-1, -3),
+            10,
+            Ok(Answer::ClearByTwo(1, 0)),
+            "81010100",
+        ),
+        case(
+            "P7",
+            &S,
+            square(5, 4),
+            (-1, -1),
+            10,
+            contact((3, 1), (6, 1), Some(1), CornerOfA(2)),
+            "81020000000300000001000000060000000101000200",
+        ),
+        case(
+            "P8",
+            &S,
+            square(5, 5),
+            (-1, -1),
+            10,
+            contact((3, 1), (7, 1), Some(0), CornerOfA(2)),
+            "81020000000300000001000000070000000100000200",
+        ),
+        case(
+            "P9",
+            &S,
+            square(2, 0),
+            (0, 0),
+            10,
+            contact((0, 1), (10, 1), None, CornerOfA(1)),
+            "810200000000000000010000000a00000001ff000100",
+        ),
+        case(
+            "P10",
+            &BLOCK,
+            square(4, 4),
+            (0, 0),
+            10,
+            contact((0, 1), (10, 1), None, CornerOfB(0)),
+            "810200000000000000010000000a00000001ff010000",
+        ),
+        case(
+            "P11",
+            &BAR,
+            POST.to_vec(),
+            (0, 0),
+            0,
+            contact((0, 1), (0, 1), None, Edges(0, 1)),
+            "810200000000000000010000000000000001ff020001",
+        ),
+        case(
+            "P12",
+            &STAR,
+            S.to_vec(),
+            (0, 0),
+            10,
+            Err(Refusal::First),
+            "81ff08",
+        ),
     ]
 }
 
 fn move_lines() -> Vec<&'static [u8]> {
-    include_bytes!("../../examples/moves.txt").split(|b| *b == b'\n').filter(|l| !l.is_empty()).collect()
+    include_bytes!("../../examples/moves.txt")
+        .split(|b| *b == b'\n')
+        .filter(|l| !l.is_empty())
+        .collect()
 }
 
 #[test]
 fn twelve_cases_from_lists() {
     for case in cases() {
         let (written, out) = asked(|out| answer_lists_into(&case.asked(), out), ANSWER_ROOM);
-        assert_answered(case.name, written, &out, case.line.as_bytes(), number(case.answer));
+        assert_answered(
+            case.name,
+            written,
+            &out,
+            case.line.as_bytes(),
+            number(case.answer),
+        );
         assert_eq!(answer_lists(&case.asked()), case.answer, "{}", case.name);
     }
 }
@@ -101,18 +222,38 @@ fn twelve_cases_from_lines() {
     assert_eq!(lines.len(), cases().len());
     for (case, line) in cases().iter().zip(lines) {
         let (written, out) = asked(|out| answer_line_into(line, out), ANSWER_ROOM);
-        assert_answered(case.name, written, &out, case.line.as_bytes(), number(case.answer));
+        assert_answered(
+            case.name,
+            written,
+            &out,
+            case.line.as_bytes(),
+            number(case.answer),
+        );
         assert_eq!(answer_line(line), case.answer, "{}", case.name);
         assert_eq!(read_line(line).err(), case.answer.err(), "{}", case.name);
+        match read_move(line) {
+            Ok(read) => assert_eq!(read.as_move(), case.asked(), "{}", case.name),
+            Err(refusal) => assert_eq!(Some(refusal), case.answer.err(), "{}", case.name),
+        }
         let closed = [line, b"\n"].concat();
-        assert_eq!(write_move(&case.asked()), case.answer.map(|_| closed), "{}", case.name);
+        assert_eq!(
+            write_move(&case.asked()),
+            case.answer.map(|_| closed),
+            "{}",
+            case.name
+        );
     }
 }
 
 #[test]
 fn outlines_of_the_cases() {
     for case in cases() {
-        assert_eq!(test_outline(&case.a).err(), case.answer.err(), "{}", case.name);
+        assert_eq!(
+            test_outline(&case.a).err(),
+            case.answer.err(),
+            "{}",
+            case.name
+        );
         assert_eq!(test_outline(&case.b), Ok(()), "{}", case.name);
     }
 }
@@ -133,15 +274,26 @@ fn asked(call: impl Fn(&mut [u8]) -> Written, room: usize) -> (Written, Vec<u8>)
 
 /// The line with its 0a stands at the start, the bytes after it as they were.
 fn assert_answered(what: &str, written: Written, out: &[u8], line: &[u8], refusal: u8) {
-    assert_eq!(written.refusal.map_or(0, Refusal::number), refusal, "{what}");
+    assert_eq!(
+        written.refusal.map_or(0, Refusal::number),
+        refusal,
+        "{what}"
+    );
     let closed = [line, b"\n"].concat();
     assert_eq!(written.bytes, closed.len(), "{what}");
     assert_eq!(shown(&out[..written.bytes]), shown(&closed), "{what}");
-    assert!(out[written.bytes..].iter().all(|b| *b == BEFORE), "{what}: a byte after the line changed");
+    assert!(
+        out[written.bytes..].iter().all(|b| *b == BEFORE),
+        "{what}: a byte after the line changed"
+    );
 }
 
 fn assert_nothing_written(what: &str, written: Written, out: &[u8], refusal: u8) {
-    assert_eq!(written.refusal.map_or(0, Refusal::number), refusal, "{what}");
+    assert_eq!(
+        written.refusal.map_or(0, Refusal::number),
+        refusal,
+        "{what}"
+    );
     assert_eq!(written.bytes, 0, "{what}");
     assert!(out.iter().all(|b| *b == BEFORE), "{what}: a byte changed");
 }
@@ -162,7 +314,12 @@ struct Lists {
 
 impl Lists {
     fn of(m: &checker::Move) -> Lists {
-        let list = |corners: &[Point]| corners.iter().flat_map(|p| [p.x as i64, p.y as i64]).collect();
+        let list = |corners: &[Point]| {
+            corners
+                .iter()
+                .flat_map(|p| [p.x as i64, p.y as i64])
+                .collect()
+        };
         let pair = |p: Point| (p.x as i64, p.y as i64);
         Lists {
             a: list(&m.a),
@@ -196,12 +353,19 @@ fn counted(list: &[i64]) -> bool {
 }
 
 fn corners(list: &[i64]) -> Vec<Point> {
-    list.chunks(2).map(|c| point(c[0].into(), c[1].into())).collect()
+    list.chunks(2)
+        .map(|c| point(c[0].into(), c[1].into()))
+        .collect()
 }
 
 fn expected(m: &Lists) -> Result<checker::Move, u8> {
     let pair = |(x, y): (i64, i64)| point(x.into(), y.into());
-    let speeds = [m.velocity_a.0, m.velocity_a.1, m.velocity_b.0, m.velocity_b.1];
+    let speeds = [
+        m.velocity_a.0,
+        m.velocity_a.1,
+        m.velocity_b.0,
+        m.velocity_b.1,
+    ];
     if !counted(&m.a) || !counted(&m.b) {
         return Err(4);
     }
@@ -241,13 +405,30 @@ fn expected_of_outline(list: &[i64]) -> u8 {
     }
 }
 
+/// The 71 numbers of the move of a line.
+fn expected_numbers(m: &Result<checker::Move, u8>) -> [i64; NUMBERS] {
+    let mut numbers = [0; NUMBERS];
+    if let Ok(m) = m {
+        let lists = Lists::of(m);
+        let (va, vb) = (lists.velocity_a, lists.velocity_b);
+        let counts = (m.a.len() as i64, m.b.len() as i64);
+        numbers[..7].copy_from_slice(&[lists.limit, va.0, va.1, vb.0, vb.1, counts.0, counts.1]);
+        numbers[7..7 + lists.a.len()].copy_from_slice(&lists.a);
+        numbers[39..39 + lists.b.len()].copy_from_slice(&lists.b);
+    }
+    numbers
+}
+
 /// Holds every call that takes lists to what is expected.
 fn check_lists(what: &str, m: &Lists, extra: usize) -> Result<Verdict, u8> {
     let expected = expected(m);
     let refusal = expected.as_ref().err().copied().unwrap_or(0);
     let answer = expected.as_ref().map(verdict).map_err(|r| *r);
 
-    let (written, out) = asked(|out| answer_lists_into(&m.asked(), out), ANSWER_ROOM + extra);
+    let (written, out) = asked(
+        |out| answer_lists_into(&m.asked(), out),
+        ANSWER_ROOM + extra,
+    );
     assert_answered(what, written, &out, &frame::write_answer(&answer), refusal);
 
     let (written, out) = asked(|out| write_move_into(&m.asked(), out), MOVE_ROOM + extra);
@@ -257,7 +438,11 @@ fn check_lists(what: &str, m: &Lists, extra: usize) -> Result<Verdict, u8> {
     }
 
     for list in [&m.a, &m.b] {
-        assert_eq!(number(test_outline(list)), expected_of_outline(list), "{what}");
+        assert_eq!(
+            number(test_outline(list)),
+            expected_of_outline(list),
+            "{what}"
+        );
     }
     answer
 }
@@ -282,12 +467,23 @@ fn random_lines() {
         assert_eq!(number(read_line(&line)), refusal, "{what}");
         assert_eq!(number(answer_line(&line)), refusal, "{what}");
 
-        if let Ok(m) = frame::read_move(&line) {
-            assert_eq!(check_lists(&what, &Lists::of(&m), extra), answer, "{what}");
+        let read = frame::read_move(&line);
+        let mut numbers = [i64::MIN; NUMBERS];
+        let returned = read_move_into(&line, &mut numbers);
+        assert_eq!(returned.map_or(0, Refusal::number), refusal, "{what}");
+        assert_eq!(numbers, expected_numbers(&read), "{what}");
+
+        if let Ok(m) = read {
+            let lists = Lists::of(&m);
+            assert_eq!(check_lists(&what, &lists, extra), answer, "{what}");
+            assert_eq!(read_move(&line).unwrap().as_move(), lists.asked(), "{what}");
         }
     }
     println!("random lines by refusal: {counts:?}");
-    assert!(counts[2..].iter().all(|n| *n > 0), "a refusal did not come up: {counts:?}");
+    assert!(
+        counts[2..].iter().all(|n| *n > 0),
+        "a refusal did not come up: {counts:?}"
+    );
 }
 
 /// Lists with something changed: what no line can say is here, as an odd length or a number of 64 bits.
@@ -306,11 +502,23 @@ fn random_lists() {
         counts[answer.err().unwrap_or(0) as usize] += 1;
     }
     println!("random lists by refusal: {counts:?}");
-    assert!(counts[4..].iter().all(|n| *n > 0), "a refusal did not come up: {counts:?}");
+    assert!(
+        counts[4..].iter().all(|n| *n > 0),
+        "a refusal did not come up: {counts:?}"
+    );
 }
 
 fn any_number(rng: &mut Rng) -> i64 {
-    let chosen = [10_000, -10_000, 10_001, -10_001, 0, 65_536, i64::MAX, i64::MIN];
+    let chosen = [
+        10_000,
+        -10_000,
+        10_001,
+        -10_001,
+        0,
+        65_536,
+        i64::MAX,
+        i64::MIN,
+    ];
     match rng.range(0, 3) {
         0 => rng.range(-11_000, 11_000) as i64,
         1 => rng.next() as i64,
@@ -319,7 +527,11 @@ fn any_number(rng: &mut Rng) -> i64 {
 }
 
 fn change(rng: &mut Rng, m: &mut Lists) {
-    let list = if rng.range(0, 1) == 0 { &mut m.a } else { &mut m.b };
+    let list = if rng.range(0, 1) == 0 {
+        &mut m.a
+    } else {
+        &mut m.b
+    };
     if list.is_empty() {
         return;
     }
@@ -356,7 +568,13 @@ fn room() {
         }
         let (written, out) = asked(|out| answer_line_into(line, out), ANSWER_ROOM);
         let answer = frame::answer(line);
-        assert_answered(&shown(line), written, &out, &frame::write_answer(&answer), answer.err().unwrap_or(0));
+        assert_answered(
+            &shown(line),
+            written,
+            &out,
+            &frame::write_answer(&answer),
+            answer.err().unwrap_or(0),
+        );
     }
     for case in cases() {
         let m = case.asked();
@@ -373,17 +591,26 @@ fn room() {
 
 #[test]
 fn empty_lists() {
-    let none = Move { a: &[], b: &[], velocity_a: (0, 0), velocity_b: (0, 0), limit: 0 };
+    let none = Move {
+        a: &[],
+        b: &[],
+        velocity_a: (0, 0),
+        velocity_b: (0, 0),
+        limit: 0,
+    };
     assert_eq!(answer_lists(&none), Err(Refusal::Count));
     assert_eq!(write_move(&none), Err(Refusal::Count));
     assert_eq!(test_outline(&[]), Err(Refusal::Count));
     assert_eq!(answer_line(&[]), Err(Refusal::Digits));
     assert_eq!(read_line(&[]), Err(Refusal::Digits));
+    assert_eq!(read_move(&[]), Err(Refusal::Digits));
 }
 
 #[test]
 fn other_lines_are_no_answers() {
-    let lines = ["", "81", "8100", "810001 ", "8102", "81ff00", "81ff0a", "820001", "81000101"];
+    let lines = [
+        "", "81", "8100", "810001 ", "8102", "81ff00", "81ff0a", "820001", "81000101",
+    ];
     for line in lines {
         assert_eq!(Answer::of_line(line.as_bytes()), None, "{line}");
     }

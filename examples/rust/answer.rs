@@ -24,7 +24,12 @@ fn main() {
         Ok(Answer::ClearByTwo(i, j)) => {
             println!("clear: sides {i} and {j} keep the outlines apart")
         }
-        Ok(Answer::Contact { first, last, bearing, showing }) => {
+        Ok(Answer::Contact {
+            first,
+            last,
+            bearing,
+            showing,
+        }) => {
             println!("contact from {first} to {last}");
             if let Some(side) = bearing {
                 println!("bearing on side {side}");

@@ -17,11 +17,10 @@ use Rattle.verdict.specs.Readings.{readingOfLists}
 use Rattle.verdict.specs.declared.Answer.{Answer}
 use Rattle.verdict.specs.declared.Reading.{Reading}
 use Rattle.verdict.proofs.Accepted.{accepted-yes}
-use Rattle.verdict.proofs.Listed.{reading-none, reading-some, lists-accepted}
+use Rattle.verdict.proofs.Listed.{held-accepted, reading-none, reading-some, lists-accepted}
 use Rattle.frame.specs.MoveFrame.{moveFrame, moveLine}
 use Rattle.frame.specs.AnswerFrame.{answerLine}
 use Rattle.frame.proofs.FrameMove.{moveFrame-length}
-use Rattle.frame.proofs.Says.{held-accepted}
 use Rattle.checker.specs.Entries.{written, over, refusalIn, spoken, spokenOut, writtenMove, writtenMoveOut}
 
 -- ---- an answer

@@ -1,6 +1,6 @@
 -- Every answer fits its frame: what is named is a side, of which there are at most 32, or a corner or an edge, of which an outline has at most 16, and the times are ends of spans, which are short.
-use mathlib.Core.Path.{_≡_, refl, sym, ap, subst, _∙_}
-use mathlib.Core.Bool.{Bool, true, false, cond}
+use mathlib.Core.Path.{_≡_, subst}
+use mathlib.Core.Bool.{Bool}
 use mathlib.Core.List.{List, flatMap}
 use Prim.Native.Nat.{ℕ, _+_, _^_, _*_, _/_, _%_, _≤_, _<_}
 use native.Mathlib.Nat.{div-lt-iff-lt-mul, mod-lt}
@@ -12,12 +12,12 @@ use borrow.Author.Tests.{ltb-false, eqb-true}
 use Rattle.whole.specs.Within.{Within}
 use Rattle.whole.specs.Lowest.{lowest}
 use Rattle.whole.specs.Time.{Short, before}
+use Rattle.whole.proofs.Flags.{cond-by}
 use Rattle.whole.proofs.Bound.{bounds, within}
 use Rattle.whole.proofs.Indices.{lowest-bound}
 use Rattle.plane.specs.Edges.{corner}
 use Rattle.plane.specs.Inside.{inside}
 use Rattle.plane.specs.declared.Corner.{Corner}
-use Rattle.outline.proofs.Ranges.{counted-yes}
 use Rattle.verdict.specs.Move.{Move, moveOfLists}
 use Rattle.verdict.specs.HeldMove.{Fit, moveHeld, heldMove}
 use Rattle.verdict.specs.Sides.{sideCount}
@@ -31,9 +31,7 @@ use Rattle.verdict.specs.declared.Span.{Span}
 use Rattle.verdict.specs.declared.Span.the-variants.{Empty, Between}
 use Rattle.verdict.specs.declared.Answer.{Answer}
 use Rattle.verdict.specs.declared.Answer.the-variants.{ClearByOne, ClearByTwo, Contact, Refused}
-use Rattle.verdict.proofs.Accepted.{accepted-yes}
-use Rattle.verdict.proofs.Refusing.{fit-yes}
-use Rattle.verdict.proofs.Listed.{held-move, lists-accepted}
+use Rattle.verdict.proofs.Listed.{held-accepted, lists-accepted}
 use Rattle.verdict.proofs.Windows.{ShortSpan, window-short}
 use Rattle.verdict.proofs.SpanList.{spans-length, spans-at}
 use Rattle.verdict.proofs.Firsts.{AllFull, first-at, last-at}
@@ -46,11 +44,6 @@ use Rattle.frame.specs.Reading.{refusalOfLine, moveOfLine, answerOfLine}
 use Rattle.frame.specs.Sayable.{Sayable, SayableBearing, SayableShowing}
 use Rattle.frame.proofs.Pushing.{three-numbers}
 use Rattle.frame.proofs.RoundTrip.{accepted}
-
--- what holds of each answer to a test, holds of the answer
-by-test : {A : Type 0} (Q : A → Type 0) (t : Bool) (x y : A) → (t ≡ true → Q x) → (t ≡ false → Q y) → Q (cond t x y)
-by-test Q true x y f g = f refl
-by-test Q false x y f g = g refl
 
 -- ---- the showing
 inside-few : (A B : List Corner) → length A ≤ 16 → cornerInside A B < 256
@@ -70,8 +63,8 @@ module _ (A B : List Corner) (few-a : length A ≤ 16) (some-b : 1 ≤ length B)
   sayable-showing : SayableShowing (showingOf A B)
   unfolding showingOf
   sayable-showing =
-      by-test SayableShowing (ltb (cornerInside A B) (length A)) _ _ (λ e. inside-few A B few-a)
-      (λ e. by-test SayableShowing (ltb (cornerInside B A) (length B)) _ _ (λ e. inside-few B A few-b) (λ e. pair-few))
+      cond-by SayableShowing (ltb (cornerInside A B) (length A)) _ _ (λ e. inside-few A B few-a)
+      (λ e. cond-by SayableShowing (ltb (cornerInside B A) (length B)) _ _ (λ e. inside-few B A few-b) (λ e. pair-few))
 
 -- ---- the spans
 difference-short : (x y : ℤ) → Within 400000000 x → Within 400000000 y → natAbs (x -ℤ y) < 2 ^ 32
@@ -128,7 +121,7 @@ module _ (h : HeldMove) (f : Fit h) where
 
   sayable-bearing : SayableBearing (bearing l)
   unfolding bearing
-  sayable-bearing = by-test SayableBearing (eqb (firstOf l .n) 0) _ _ (λ e. tt) (λ e. side-few _)
+  sayable-bearing = cond-by SayableBearing (eqb (firstOf l .n) 0) _ _ (λ e. tt) (λ e. side-few _)
 
   pub sayable-verdict : Sayable (verdict (moveHeld h))
   unfolding verdict verdictFrom showing
@@ -139,24 +132,17 @@ module _ (h : HeldMove) (f : Fit h) where
       let some-b = f .some-b in
       let long-a = moved-length (h .a) (f .held-a .kept) (t .n) (t .d) (h .va) in
       let long-b = moved-length (h .b) (f .held-b .kept) (t .n) (t .d) (h .vb) in
-      by-test Sayable (ltb (emptySide l) (length l)) _ _ (λ e. side-few _)
-      (λ e. by-test Sayable (before (lastOf l) t) _ _ (λ e. (side-few _, side-few _))
+      cond-by Sayable (ltb (emptySide l) (length l)) _ _ (λ e. side-few _)
+      (λ e. cond-by Sayable (before (lastOf l) t) _ _ (λ e. (side-few _, side-few _))
       (λ _. let n = ltb-false (emptySide l) (length l) e in (first-short n, last-short n, sayable-bearing, sayable-showing _ _ (omega arith) (omega arith) (omega arith))))
 
 -- ---- the answers
--- an accepted move, held, is fit to be worked, and comes back from where it is held
-pub held-accepted : (m : Move) → refusal m ≡ 0 → Fit (heldMove m) × (moveHeld (heldMove m) ≡ m)
-held-accepted m e =
-    let r = accepted-yes m e in
-    let kept = held-move m (counted-yes (length (m .a)) (r .counted-a) .1) (counted-yes (length (m .b)) (r .counted-b) .1) in
-    (fit-yes (heldMove m) (ap heldMove (sym kept)) (ap refusal kept ∙ e), kept)
-
 sayable-accepted : (m : Move) → refusal m ≡ 0 → Sayable (verdict m)
 sayable-accepted m e = let h = held-accepted m e in subst (λ x. Sayable (verdict x)) (h .1) (sayable-verdict (heldMove m) (h .0))
 
 sayable-unless : (r : ℕ) (m : Move) → (r ≡ 0 → refusal m ≡ 0) → Sayable (answerUnless r m)
 unfolding answerUnless
-sayable-unless r m ok = by-test Sayable (eqb r 0) _ _ (λ e. sayable-accepted m (ok (eqb-true r 0 e))) (λ e. tt)
+sayable-unless r m ok = cond-by Sayable (eqb r 0) _ _ (λ e. sayable-accepted m (ok (eqb-true r 0 e))) (λ e. tt)
 
 pub sayable-line : (l : List ℕ) → Sayable (answerOfLine l)
 unfolding answerOfLine

@@ -3,12 +3,12 @@ use mathlib.Core.Path.{_≡_, _∙_}
 use mathlib.Core.Logic.{_⊎_, inl, inr, ⊎-elim}
 use mathlib.Core.List.{List, [], _∷_}
 use Prim.Native.Nat.{ℕ, zero, suc, _<_}
-use native.Mathlib.Nat.{eq-or-lt-of-le, le-of-suc-le-suc}
 use native.Mathlib.Omega.{arith}
 use lib.IntN.{ℤ, pos, negℤ, _+ℤ_, _*ℤ_}
 use lib.ListN.{length}
 use lib.Signed.{_≤ℤ_, _<ℤ_, ≤ℤ-refl, clashℤ}
 use Rattle.whole.specs.Member.{Mem}
+use Rattle.whole.proofs.Indices.{below-suc}
 use Rattle.whole.proofs.Parts.{P-neg, N-neg}
 use Rattle.whole.proofs.Ring.{reps, by-ring}
 use Rattle.whole.proofs.Linear.{ints, lin≤, ≤lin, lin<, <lin}
@@ -43,9 +43,6 @@ least-trans a x b y c z hx hy hb hc h k = ⊎-elim (λ hz. both-nonneg y c b z h
           lin≤ ρ (search reps depth 12) tt (mul-nonneg (negℤ y) (negℤ x *ℤ c +ℤ a *ℤ z) (omega (ints, P-neg y, N-neg y)) k),
           lin< ρ (search reps depth 12) tt (mul-pos (negℤ z) (negℤ (negℤ x *ℤ b +ℤ a *ℤ y)) (omega (ints, P-neg z, N-neg z)) (omega (ints, P-neg (negℤ x *ℤ b +ℤ a *ℤ y), N-neg (negℤ x *ℤ b +ℤ a *ℤ y)))),
         )))
-
-below-suc : (Q : ℕ → Type 0) (n : ℕ) → ((l : ℕ) → l < n → Q l) → Q n → (l : ℕ) → l < suc n → Q l
-below-suc Q n f q l h = ⊎-elim (λ e. rw e q) (f l) (eq-or-lt-of-le (le-of-suc-le-suc h))
 
 cancels : (x b : ℤ) → negℤ x *ℤ b +ℤ b *ℤ x ≡ pos 0
 cancels x b = by-ring (x ∷ b ∷ []) (search reps depth 12) (search reps depth 12) tt

@@ -8,16 +8,16 @@ use Prim.Native.Nat.{ℕ, zero, suc}
 use native.Mathlib.Numerals.{add-one}
 use native.Mathlib.Omega.{arith}
 use lib.IntN.{ℤ, pos, negsuc, _+ℤ_, _-ℤ_, _*ℤ_, negℤ}
-use lib.Signed.{_≤ℤ_, _<ℤ_, clashℤ, ≤ℤ-refl}
+use lib.Signed.{_≤ℤ_, _<ℤ_, ≤ℤ-refl}
 use Rattle.whole.specs.Member.{Mem}
 use Rattle.whole.proofs.Parts.{P-neg, N-neg}
 use Rattle.whole.proofs.Ring.{reps, by-ring}
 use Rattle.whole.proofs.Linear.{ints, lin≤, ≤lin, lin<, <lin, lin≡, ≡lin}
-use Rattle.whole.proofs.Order.{mul-nonneg, mul-pos, sq-nonneg, cancel-≤, cancel-<, cancel-≡, cases, ≤-or-<, <-le, nonneg-sub}
+use Rattle.whole.proofs.Members.{mem-cons, mem-or}
+use Rattle.whole.proofs.Order.{mul-nonneg, mul-pos, neg-nonneg, sq-nonneg, sq-zero, cancel-≤, cancel-<, cancel-≡, cases, ≤-or-<, <-le, nonneg-sub}
 use Rattle.plane.specs.Point.{origin, plus, scaled, cross, dot}
 use Rattle.plane.specs.declared.Corner.{Corner}
 use Rattle.plane.proofs.Products.{corner-same, coords, cross-self, cross-flip, cross-three, lagrange-cross, lagrange-dot}
-use Rattle.plane.proofs.Lists.{mem-cons, mem-or}
 
 -- v stands to the left of r, or on its ray and no nearer
 pub data After (r v : Corner) : Type 0 where
@@ -38,11 +38,6 @@ extreme-first : (w : Corner) (vs : List Corner) → pos 0 <ℤ dot w w → ((v :
 extreme-first w vs h a = record { r = w; member = inl refl; nonzero = h; after = mem-cons (After w) w vs (along (cross-self w) (≤ℤ-refl (dot w w))) a }
 
 -- ---- a vector is zero, or its product with itself is not
-square-zero : (a : ℤ) → (a *ℤ a) ≤ℤ pos 0 → a ≡ pos 0
-square-zero (pos zero) h = refl
-square-zero (pos (suc n)) h = clashℤ (mul-pos (pos (suc n)) (pos (suc n)) (omega ints) (omega ints)) h
-square-zero (negsuc n) h = clashℤ (mul-pos (pos (suc n)) (pos (suc n)) (omega ints) (omega ints)) h
-
 pub dot-pos : (w : Corner) → (w ≡ origin) ⊎ (pos 0 <ℤ dot w w)
 unfolding dot
 dot-pos w = ⊎-elim (λ h. inl (both h)) inr (≤-or-< (dot w w) (pos 0))
@@ -51,11 +46,8 @@ dot-pos w = ⊎-elim (λ h. inl (both h)) inr (≤-or-< (dot w w) (pos 0))
     both h =
         let ρ = coords (w ∷ []) in
         let l = lin≤ ρ (search reps depth 12) tt h in
-        corner-same (square-zero (w .x) (≤lin ρ (search reps depth 12) tt (omega (arith, lin≤ ρ (search reps depth 12) tt (sq-nonneg (w .y))))))
-        (square-zero (w .y) (≤lin ρ (search reps depth 12) tt (omega (arith, lin≤ ρ (search reps depth 12) tt (sq-nonneg (w .x))))))
-
-neg-nonneg : (a : ℤ) → a ≤ℤ pos 0 → pos 0 ≤ℤ negℤ a
-neg-nonneg a h = omega (ints, P-neg a, N-neg a)
+        corner-same (sq-zero (w .x) (≤lin ρ (search reps depth 12) tt (omega (arith, lin≤ ρ (search reps depth 12) tt (sq-nonneg (w .y))))))
+        (sq-zero (w .y) (≤lin ρ (search reps depth 12) tt (omega (arith, lin≤ ρ (search reps depth 12) tt (sq-nonneg (w .x))))))
 
 pub flip-nonneg : (a b : Corner) → cross a b ≤ℤ pos 0 → pos 0 ≤ℤ cross b a
 flip-nonneg a b h = rw (cross-flip a b) (neg-nonneg (cross a b) h)

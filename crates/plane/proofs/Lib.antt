@@ -1,5 +1,4 @@
 pub mod Products
-pub mod Lists
 pub mod Intervals
 pub mod Extreme
 pub mod Wide

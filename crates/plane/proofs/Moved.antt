@@ -2,7 +2,7 @@
 -- Its interval in a direction is the outline's, times d and moved by the velocity's projection, times n.
 -- So whether two moved outlines share a value is two inequalities between whole numbers.
 use mathlib.Core.Path.{_≡_, refl, sym, _∙_, ap, ap₂}
-use mathlib.Core.Bool.{Bool, true, false, not, _&&_}
+use mathlib.Core.Bool.{true, _&&_}
 use mathlib.Core.Logic.{_↔_}
 use mathlib.Core.List.{List, [], _∷_, map, map-map, map-id}
 use Prim.Native.Nat.{ℕ, zero, suc, _≤_, _<_}
@@ -12,15 +12,15 @@ use lib.ListN.{length, length-map}
 use lib.Signed.{_≤ℤ_, _<ℤ_, ltZ, leZ}
 use Rattle.whole.specs.Best.{best}
 use Rattle.whole.proofs.Ring.{reps, by-ring}
-use Rattle.whole.proofs.Linear.{ints, lin≤, ≤lin, lin<, <lin}
-use Rattle.whole.proofs.Order.{mul-nonneg, mul-pos, mul-<, mul-≤, <-le}
+use Rattle.whole.proofs.Linear.{ints}
+use Rattle.whole.proofs.Members.{best-map}
+use Rattle.whole.proofs.Order.{mul-nonneg, mul-pos, ltZ-line, leZ-line}
 use Rattle.plane.specs.Point.{step, scaled, cross, dot}
 use Rattle.plane.specs.Motion.{moved, movedAll}
 use Rattle.plane.specs.Edges.{corner, next, edge}
 use Rattle.plane.specs.Interval.{low, high, shares}
 use Rattle.plane.specs.declared.Corner.{Corner}
 use Rattle.plane.proofs.Products.{corner-same, cross-scaled, scaled-cross, dot-plus, dot-scaled, scaled-dot}
-use Rattle.plane.proofs.Lists.{best-map}
 use Rattle.plane.proofs.Intervals.{shares-yes, shares-true}
 use Rattle.plane.proofs.Wide.{Wide, next-below}
 
@@ -62,40 +62,17 @@ module _ (n d : ℕ) (v : Corner) where
         (s .0, rw (length-map A (moved n d v)) (s .1), rw (cross-moved A i (s .0) i-below (s .1)) (mul-pos (pos d) _ (omega ints) (mul-pos (pos d) _ (omega ints) (s .2))));
   }
 
-leZ-not : (x y : ℤ) → leZ x y ≡ not (ltZ y x)
-leZ-not x y = go (ltZ y x) refl
-  where
-    go : (t : Bool) → ltZ y x ≡ t → leZ x y ≡ not t
-    go true e = omega ints
-    go false e = omega ints
-
 -- ---- intervals: z goes to k·z + c, which keeps the order
 module _ (k c : ℤ) (h : pos 0 <ℤ k) where
-  ltZ-line : (x y : ℤ) → ltZ (k *ℤ x +ℤ c) (k *ℤ y +ℤ c) ≡ ltZ x y
-  ltZ-line x y = go (ltZ x y) refl
-    where
-      go : (t : Bool) → ltZ x y ≡ t → ltZ (k *ℤ x +ℤ c) (k *ℤ y +ℤ c) ≡ t
-      go true e =
-          let ρ = k ∷ c ∷ x ∷ y ∷ [] in
-          let l : (k *ℤ x +ℤ c) <ℤ (k *ℤ y +ℤ c) = <lin ρ (search reps depth 12) tt (omega (arith, lin< ρ (search reps depth 12) tt (mul-< x y k (omega ints) h))) in
-          omega ints
-      go false e =
-          let ρ = k ∷ c ∷ x ∷ y ∷ [] in
-          let l : (k *ℤ y +ℤ c) ≤ℤ (k *ℤ x +ℤ c) = ≤lin ρ (search reps depth 12) tt (omega (arith, lin≤ ρ (search reps depth 12) tt (mul-≤ y x k (omega ints) (<-le (pos 0) k h)))) in
-          omega ints
-
-  leZ-line : (x y : ℤ) → leZ (k *ℤ x +ℤ c) (k *ℤ y +ℤ c) ≡ leZ x y
-  leZ-line x y = leZ-not (k *ℤ x +ℤ c) (k *ℤ y +ℤ c) ∙ ap not (ltZ-line y x) ∙ sym (leZ-not x y)
-
   -- the ends of an interval whose projections are those of another, moved along a line
   module _ (D E : Corner) (m : Corner → Corner) (is : (a : Corner) → dot E (m a) ≡ k *ℤ dot D a +ℤ c) where
     low-line : (a : Corner) (A : List Corner) → low E (map m (a ∷ A)) ≡ k *ℤ low D (a ∷ A) +ℤ c
     unfolding low
-    low-line a A = ap (best ltZ (pos 0)) (map-map (dot E) m (a ∷ A)) ∙ best-map ltZ ltZ (λ z. k *ℤ z +ℤ c) ltZ-line (dot D) (λ a. dot E (m a)) is (pos 0) (pos 0) a A
+    low-line a A = ap (best ltZ (pos 0)) (map-map (dot E) m (a ∷ A)) ∙ best-map ltZ ltZ (λ z. k *ℤ z +ℤ c) (ltZ-line k c h) (dot D) (λ a. dot E (m a)) is (pos 0) (pos 0) a A
 
     high-line : (a : Corner) (A : List Corner) → high E (map m (a ∷ A)) ≡ k *ℤ high D (a ∷ A) +ℤ c
     unfolding high
-    high-line a A = ap (best (λ x y. ltZ y x) (pos 0)) (map-map (dot E) m (a ∷ A)) ∙ best-map (λ x y. ltZ y x) (λ x y. ltZ y x) (λ z. k *ℤ z +ℤ c) (λ x y. ltZ-line y x) (dot D) (λ a. dot E (m a)) is (pos 0) (pos 0) a A
+    high-line a A = ap (best (λ x y. ltZ y x) (pos 0)) (map-map (dot E) m (a ∷ A)) ∙ best-map (λ x y. ltZ y x) (λ x y. ltZ y x) (λ z. k *ℤ z +ℤ c) (λ x y. ltZ-line k c h y x) (dot D) (λ a. dot E (m a)) is (pos 0) (pos 0) a A
 
 module _ (D : Corner) (n d : ℕ) (hd : 1 ≤ d) where
   dot-moved : (v a : Corner) → dot D (moved n d v a) ≡ pos d *ℤ dot D a +ℤ pos n *ℤ dot D v

@@ -11,7 +11,7 @@ use lib.Signed.{_≤ℤ_, _<ℤ_}
 use Rattle.whole.proofs.Parts.{P, N, P-neg, N-neg}
 use Rattle.whole.proofs.Ring.{reps, by-ring}
 use Rattle.whole.proofs.Linear.{ints, lin≤, ≤lin, lin<, <lin, lin≡, ≡lin}
-use Rattle.whole.proofs.Order.{nonneg-sub, mul-nonneg, mul-pos, cancel-≤, cancel-≡, ≤-or-<, ≤-antisym, cases, <-le}
+use Rattle.whole.proofs.Order.{neg-nonneg, nonneg-sub, mul-nonneg, mul-pos, cancel-≤, cancel-≡, ≤-or-<, ≤-antisym, cases, <-le}
 use Rattle.plane.specs.Point.{step, scaled, cross, dot}
 use Rattle.plane.specs.Edges.{corner, next, edge}
 use Rattle.plane.specs.declared.Corner.{Corner}
@@ -33,8 +33,7 @@ factor-pos k x y z m e hk hx hz = ⊎-elim (λ h. absurd (no h)) (λ h. h) (≤-
     no : y ≤ℤ pos 0 → ⊥
     no h =
         let ρ = k ∷ x ∷ y ∷ z ∷ m ∷ [] in
-        let neg : pos 0 ≤ℤ negℤ y = omega (ints, P-neg y, N-neg y) in
-        omega (arith, lin≡ ρ (search reps depth 12) tt e, lin< ρ (search reps depth 12) tt (mul-pos k x hk hx), lin≤ ρ (search reps depth 12) tt (mul-nonneg (negℤ y) z neg hz))
+        omega (arith, lin≡ ρ (search reps depth 12) tt e, lin< ρ (search reps depth 12) tt (mul-pos k x hk hx), lin≤ ρ (search reps depth 12) tt (mul-nonneg (negℤ y) z (neg-nonneg y h) hz))
 
 cross-away : (t : ℤ) (p q s : Corner) → t *ℤ cross (step p q) (step (scaled t p) s) ≡ cross (step (scaled t p) s) (step (scaled t q) s)
 unfolding cross

@@ -2,13 +2,14 @@
 -- A segment is a list of two corners, which may be one point. At nearest ends a and b the side of a segment separates, as for outlines;
 -- where neither segment turns off the line through a and b, an axis does.
 use mathlib.Core.Path.{_≡_, refl, _∙_, ap₂}
-use mathlib.Core.Bool.{Bool, true, _&&_, and-eq-true-iff}
-use mathlib.Core.Logic.{_↔_, _⊎_, inl, inr, ⊎-elim}
+use mathlib.Core.Bool.{true}
+use mathlib.Core.Logic.{_⊎_, inl, inr, ⊎-elim}
 use mathlib.Core.List.{List, [], _∷_}
 use native.Mathlib.Omega.{arith}
 use lib.IntN.{ℤ, pos, _+ℤ_, _-ℤ_, _*ℤ_, negℤ}
 use lib.Signed.{_≤ℤ_, _<ℤ_, ≤ℤ-refl, <ℤ-irrefl}
 use Rattle.whole.specs.Member.{Mem}
+use Rattle.whole.proofs.Flags.{and-four}
 use Rattle.whole.proofs.Parts.{P-neg, N-neg}
 use Rattle.whole.proofs.Ring.{reps, by-ring}
 use Rattle.whole.proofs.Linear.{ints, lin≤, ≤lin, lin<, <lin, lin≡}
@@ -172,16 +173,6 @@ found p q a (inr (inl e)) = rw e (record {
   apart = λ A B s. s;
 })
 found p q a (inr (inr m)) = absurd m
-
-and-four : (a b c d : Bool) → (a && (b && (c && d)) ≡ true) ↔ ((a ≡ true) × (b ≡ true) × (c ≡ true) × (d ≡ true))
-and-four a b c d = (there, λ h. and-eq-true-iff a (b && (c && d)) .1 (h .0, and-eq-true-iff b (c && d) .1 (h .1, and-eq-true-iff c d .1 (h .2, h .3))))
-  where
-    there : a && (b && (c && d)) ≡ true → (a ≡ true) × (b ≡ true) × (c ≡ true) × (d ≡ true)
-    there e =
-        let f = and-eq-true-iff a (b && (c && d)) .0 e in
-        let g = and-eq-true-iff b (c && d) .0 (f .1) in
-        let h = and-eq-true-iff c d .0 (g .1) in
-        (f .0, g .0, h .0, h .1)
 
 module _ (p q r s : Corner) where
   pub meet-yes : meet p q r s ≡ true → CommonPoint (p ∷ q ∷ []) (r ∷ s ∷ [])

@@ -1,14 +1,16 @@
 -- The contracts of what is linked, as the source has them, are determined: two outcomes that one allows for the same input show the same number, the same length and the same lent bytes.
 use mathlib.Core.List.{List}
 use Prim.Native.Nat.{ℕ}
+use lib.IntN.{ℤ}
 use contract.Lifetimes.{Lfts}
 use denote.Ref.{now}
 use Rattle.whole.specs.Determined.{Determined}
-use Rattle.whole.proofs.Determination.{determined, all-three}
+use Rattle.whole.proofs.Determination.{determined, both, all-three}
 use Rattle.stonefruitle_c.proofs.stonefruitle_answer_line.Reads as answer-line
 use Rattle.stonefruitle_c.proofs.stonefruitle_answer_lists.Reads as answer-lists
 use Rattle.stonefruitle_c.proofs.stonefruitle_write_move.Reads as write-move
 use Rattle.stonefruitle_c.proofs.stonefruitle_read_line.Reads as read-line
+use Rattle.stonefruitle_c.proofs.stonefruitle_read_move.Reads as read-move
 use Rattle.stonefruitle_c.proofs.stonefruitle_test_outline.Reads as test-outline
 
 pub answer-line-determined : (κs : Lfts 3) → Determined {Y = ℕ × ℕ × List ℕ} (answer-line.Learnt κs) (λ r e. (r, now (e .1 .1 .0), now (e .1 .0)))
@@ -22,6 +24,9 @@ write-move-determined κs = determined (λ a r e p. all-three (p .0) (p .1) (p .
 
 pub read-line-determined : (κs : Lfts 1) → Determined (read-line.Learnt κs) (λ r e. r)
 read-line-determined κs = determined (λ a r e p. p)
+
+pub read-move-determined : (κs : Lfts 2) → Determined {Y = ℕ × List ℤ} (read-move.Learnt κs) (λ r e. (r, now (e .1 .0)))
+read-move-determined κs = determined (λ a r e p. both (p .0) (p .1))
 
 pub test-outline-determined : (κs : Lfts 1) → Determined (test-outline.Learnt κs) (λ r e. r)
 test-outline-determined κs = determined (λ a r e p. p)

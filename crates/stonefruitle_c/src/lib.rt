@@ -6,7 +6,12 @@ ghost use Rattle.plane.specs.Point.{point};
 ghost use Rattle.outline.specs.Refusal.{refusalOfOutline};
 ghost use Rattle.verdict.specs.Answer.{answerOfLists};
 ghost use Rattle.frame.specs.Reading.{answerOfLine, refusalOfLine};
+ghost use Rattle.frame.specs.Answers.{reading};
+ghost use Rattle.stonefruitle_c.specs.Numbers.{numbers};
 ghost use Rattle.checker.specs.Entries.{spoken, spokenOut, writtenMove, writtenMoveOut};
+
+mod numbers; // a move as a list of numbers
+
 use plane::Corner;
 
 // The answer to a line, which stands without its 0a, into `out`, and its length into `written`: 0 where `out` has no room for it.
@@ -58,9 +63,9 @@ pub extern "C" fn stonefruitle_write_move(
 {
     let va = Corner { x: vax, y: vay };
     let vb = Corner { x: vbx, y: vby };
-    let w = checker::write_move(a, b, va, vb, limit, out);
-    *written = w.bytes;
-    w.refusal
+    let put = checker::write_move(a, b, va, vb, limit, out);
+    *written = put.bytes;
+    put.refusal
 }
 
 // Whether a line, which stands without its 0a, is a move: 2 to 9, the first that applies, or 0.
@@ -69,6 +74,17 @@ pub extern "C" fn stonefruitle_read_line(line: &[u8]) -> u8
     ensures { λ r. ⌜ r ≡ refusalOfLine (now (line .entry)) ⌝ }
 {
     let r = checker::read_line(line);
+    r.refusal
+}
+
+// The move of a line, which stands without its 0a, as 71 numbers: the limit, the velocities of A and of B, the counts of A and of B,
+// sixteen corner places of A, sixteen of B; all zeros where the line is refused.
+#[no_mangle]
+pub extern "C" fn stonefruitle_read_move(line: &[u8], into: &mut [i64; 71]) -> u8
+    ensures { λ r. ⌜ (r ≡ refusalOfLine (now (line .entry))) × (now (into .exit) ≡ numbers (reading (now (line .entry)) .held)) ⌝ }
+{
+    let r = checker::read_line(line);
+    *into = numbers::numbers_of(r.held);
     r.refusal
 }
 

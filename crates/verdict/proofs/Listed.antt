@@ -62,19 +62,20 @@ module _ (xs ys : List ℤ) (va vb : Corner) (T : ℤ) where
       let q = and-eq-true-iff (paired ys) (counted (length (cornersOf ys))) .0 f in
       simp (p .0, q .0)
 
+-- an accepted move, held, is fit to be worked, and comes back from where it is held
+pub held-accepted : (m : Move) → refusal m ≡ 0 → Fit (heldMove m) × (moveHeld (heldMove m) ≡ m)
+held-accepted m e =
+    let r = accepted-yes m e in
+    let kept = held-move m (counted-yes (length (m .a)) (r .counted-a) .1) (counted-yes (length (m .b)) (r .counted-b) .1) in
+    (fit-yes (heldMove m) (ap heldMove (sym kept)) (ap refusal kept ∙ e), kept)
+
 -- ---- a move beside its refusal: where r is 0 the move is accepted
 module _ (r : ℕ) (m : Move) (ok : r ≡ 0 → refusal m ≡ 0) where
-  -- an accepted move comes back from where it is held
-  kept-move : r ≡ 0 → moveHeld (heldMove m) ≡ m
-  kept-move z =
-      let a = accepted-yes m (ok z) in
-      held-move m (counted-yes (length (m .a)) (a .counted-a) .1) (counted-yes (length (m .b)) (a .counted-b) .1)
-
   pub reading-readable : Readable (readingUnless r m)
   reading-readable = go (ℕ-discrete r 0)
     where
       go : Dec (r ≡ 0) → Readable (readingUnless r m)
-      go (yes z) = λ _. subst (λ x. Fit (x .held)) (sym (reading-none r m z)) (fit-yes (heldMove m) (ap heldMove (sym (kept-move z))) (ap refusal (kept-move z) ∙ ok z))
+      go (yes z) = λ _. subst (λ x. Fit (x .held)) (sym (reading-none r m z)) (held-accepted m (ok z) .0)
       go (no n) = λ e. absurd (n (sym (ap (λ x. x .refusal) (reading-some r m n)) ∙ e))
 
   pub reading-answer : answerUnless (readingUnless r m .refusal) (moveHeld (readingUnless r m .held)) ≡ answerUnless r m
@@ -82,7 +83,7 @@ module _ (r : ℕ) (m : Move) (ok : r ≡ 0 → refusal m ≡ 0) where
   reading-answer = go (ℕ-discrete r 0)
     where
       go : Dec (r ≡ 0) → answerUnless (readingUnless r m .refusal) (moveHeld (readingUnless r m .held)) ≡ answerUnless r m
-      go (yes z) = ap (λ x. answerUnless (x .refusal) (moveHeld (x .held))) (reading-none r m z) ∙ ap (answerUnless 0) (kept-move z) ∙ ap (λ n. answerUnless n m) (sym z)
+      go (yes z) = ap (λ x. answerUnless (x .refusal) (moveHeld (x .held))) (reading-none r m z) ∙ ap (answerUnless 0) (held-accepted m (ok z) .1) ∙ ap (λ n. answerUnless n m) (sym z)
       go (no n) = ap (λ x. answerUnless (x .refusal) (moveHeld (x .held))) (reading-some r m n) ∙ simp (ne-eqb r 0 n)
 
 pub lists-accepted : (xs ys : List ℤ) (va vb : Corner) (T : ℤ) → refusalOfLists xs ys va vb T ≡ 0 → refusal (moveOfLists xs ys va vb T) ≡ 0

@@ -1,12 +1,12 @@
 -- The list of the spans: how long it is and what stands where. Length and places are an induction over the number of sides; the first few are told by them.
-use mathlib.Core.Path.{_≡_, refl, sym, _∙_}
+use mathlib.Core.Path.{_≡_, refl, _∙_}
 use mathlib.Core.Logic.{⊎-elim}
 use mathlib.Core.List.{[], _∷_}
-use Prim.Native.Nat.{ℕ, zero, suc, _≤_, _<_}
+use Prim.Native.Nat.{ℕ, zero, suc, _<_}
 use native.Mathlib.Nat.{eq-or-lt-of-le}
 use native.Mathlib.Omega.{arith}
-use lib.ListN.{length, getD, take, length-append, List·getD-append}
-use lib.Seq.{getD-at, length-take-le, getD-take, ext-getD}
+use lib.ListN.{length, getD, length-append, List·getD-append}
+use lib.Seq.{getD-at}
 use Rattle.verdict.specs.Move.{Move}
 use Rattle.verdict.specs.Sides.{sideCount}
 use Rattle.verdict.specs.Span.{span, spansTo, spans}
@@ -25,13 +25,6 @@ spansTo-at m (suc n) k h =
     ⊎-elim (λ (e : suc k ≡ suc n). let q : n ≡ k = omega arith in rw q (getD-at (spansTo m k) (span m k) [] Empty k (spansTo-length m k)))
     (λ (l : suc k < suc n). List·getD-append (spansTo m n) (span m n ∷ []) Empty k (omega arith) ∙ spansTo-at m n k (omega arith))
     (eq-or-lt-of-le h)
-
-pub spansTo-take : (m : Move) (n k : ℕ) → k ≤ n → spansTo m k ≡ take k (spansTo m n)
-spansTo-take m n k h =
-    let all = spansTo-length m n in
-    let some = spansTo-length m k in
-    ext-getD Empty (spansTo m k) (take k (spansTo m n)) (some ∙ sym (length-take-le k (spansTo m n) (omega arith)))
-    (λ i l. spansTo-at m k i (omega arith) ∙ sym (getD-take k (spansTo m n) i Empty (omega arith) ∙ spansTo-at m n i (omega arith)))
 
 -- ---- of all sides
 pub spans-length : (m : Move) → length (spans m) ≡ sideCount m

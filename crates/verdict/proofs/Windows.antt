@@ -12,6 +12,7 @@ use lib.Signed.{_≤ℤ_, _<ℤ_, ltZ}
 use borrow.Author.Tests.{ltb-true, ltb-false, lt-ltb, le-ltb}
 use Rattle.whole.specs.Time.{time, before, reduced, Reduced, Short}
 use Rattle.whole.specs.declared.Time.{Time}
+use Rattle.whole.proofs.Flags.{cond-by}
 use Rattle.whole.proofs.Parts.{P, P-neg, N-neg, split, diff}
 use Rattle.whole.proofs.Bound.{abs-neg}
 use Rattle.whole.proofs.Ring.{reps, by-ring}
@@ -59,11 +60,6 @@ module _ (p q k : ℕ) (t : Time) (h : 1 ≤ q) (v : Value p q k t) where
   value-end n d = (λ e. ltb-false _ _ (before-step (time n d) t (time p q) (v .lowest .proper) e value-ge), λ l. before-step (time n d) (time p q) t h (le-ltb _ _ l) value-le)
 
 -- ---- for w above zero
--- what holds of each answer to a test, holds of the answer
-by-test : {A : Type 0} (Q : A → Type 0) (t : Bool) (x y : A) → (t ≡ true → Q x) → (t ≡ false → Q y) → Q (cond t x y)
-by-test Q true x y f g = f refl
-by-test Q false x y f g = g refl
-
 -- the three kinds of window: ended before 0, begun after T, or with a begin and an end
 data Ahead (lo : ℤ) (q T : ℕ) : ℤ → Span → Type 0 where
   ended : (k : ℕ) → Ahead lo q T (negsuc k) Empty
@@ -71,12 +67,12 @@ data Ahead (lo : ℤ) (q T : ℕ) : ℤ → Span → Type 0 where
   between : (h : ℕ) (b e : Time) → P lo ≤ T * q → Value (P lo) q (natAbs lo) b → Value (min h (T * q)) q (max h T) e → Ahead lo q T (pos h) (Between b e)
 
 begin-value : (lo : ℤ) (q : ℕ) → 1 ≤ q → Value (P lo) q (natAbs lo) (cond (ltZ (pos 0) lo) (reduced (natAbs lo) q) (time 0 1))
-begin-value (pos p) q h = by-test (Value p q p) (ltb 0 p) (reduced p q) (time 0 1) (λ e. reduced-value p q p h (omega arith)) (λ e. whole-value p q p 0 h (omega (arith, ltb-false)) (omega arith))
+begin-value (pos p) q h = cond-by (Value p q p) (ltb 0 p) (reduced p q) (time 0 1) (λ e. reduced-value p q p h (omega arith)) (λ e. whole-value p q p 0 h (omega (arith, ltb-false)) (omega arith))
 begin-value (negsuc k) q h = whole-value 0 q (suc k) 0 h (omega arith) (omega arith)
 
 end-value : (h q T : ℕ) → 1 ≤ q → Value (min h (T * q)) q (max h T) (cond (ltb h (T * q)) (reduced h q) (time T 1))
 end-value h q T l =
-    by-test (Value (min h (T * q)) q (max h T)) (ltb h (T * q)) (reduced h q) (time T 1)
+    cond-by (Value (min h (T * q)) q (max h T)) (ltb h (T * q)) (reduced h q) (time T 1)
     (λ e. let less : min h (T * q) ≡ h = omega (arith, ltb-true) in rw less (reduced-value h q (max h T) l (omega arith)))
     (λ e. whole-value (min h (T * q)) q (max h T) T l (omega (arith, ltb-false)) (omega arith))
 
@@ -89,7 +85,7 @@ unfolding windowAhead
 ahead lo (negsuc k) q T l = ended k
 ahead lo (pos h) q T l =
     rw (le-ltb h 0 (omega arith))
-    (by-test (Ahead lo q T (pos h)) (ltZ (pos (T * q)) lo) Empty _ (λ e. late h (omega ints)) (λ e. between h _ _ (positive-le lo (T * q) (omega ints)) (begin-value lo q l) (end-value h q T l)))
+    (cond-by (Ahead lo q T (pos h)) (ltZ (pos (T * q)) lo) Empty _ (λ e. late h (omega ints)) (λ e. between h _ _ (positive-le lo (T * q) (omega ints)) (begin-value lo q l) (end-value h q T l)))
 
 -- ---- for any w: above zero, below zero, or zero with lo above, with hi below, or with neither
 data Windowed (lo hi : ℤ) (T : ℕ) : ℤ → Span → Type 0 where
@@ -102,8 +98,8 @@ data Windowed (lo hi : ℤ) (T : ℕ) : ℤ → Span → Type 0 where
 windowed : (lo hi w : ℤ) (T : ℕ) → Windowed lo hi T w (window lo hi w T)
 unfolding window windowStill
 windowed lo hi (pos zero) T =
-    by-test (Windowed lo hi T (pos 0)) (ltZ (pos 0) lo) Empty _ (λ e. above (omega ints))
-    (λ e. by-test (Windowed lo hi T (pos 0)) (ltZ hi (pos 0)) Empty _ (λ f. below (omega ints)) (λ f. always (omega ints) (omega ints)))
+    cond-by (Windowed lo hi T (pos 0)) (ltZ (pos 0) lo) Empty _ (λ e. above (omega ints))
+    (λ e. cond-by (Windowed lo hi T (pos 0)) (ltZ hi (pos 0)) Empty _ (λ f. below (omega ints)) (λ f. always (omega ints) (omega ints)))
 windowed lo hi (pos (suc q)) T = rw (lt-ltb 0 (suc q) (omega arith)) (forth (suc q) (omega arith) (ahead lo hi (suc q) T (omega arith)))
 windowed lo hi (negsuc k) T = back k (ahead (negℤ hi) (negℤ lo) (suc k) T (omega arith))
 

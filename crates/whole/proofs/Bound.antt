@@ -97,10 +97,3 @@ fits {w} {z} b t = record { sfits = omega (arith, mag-abs z, b .below, ltb→lt 
 -- `within (search bounds) tt`
 pub within : {z : ℤ} {k : ℕ} (b : Bd z) → T (leb (b .top) k) → Within k z
 within {z} {k} b t = record { le = le-trans (b .below) (leb→le (b .top) k t) }
-
--- the same where the bound is no numeral: `fits-by (search bounds) (omega arith)`
-pub fits-by : {w : Width} {z : ℤ} (b : Bd z) → b .top < 2 ^ hbits w → SFits w z
-fits-by {w} {z} b h = record { sfits = omega (arith, mag-abs z, b .below) }
-
-pub within-by : {z : ℤ} {k : ℕ} (b : Bd z) → b .top ≤ k → Within k z
-within-by b h = record { le = le-trans (b .below) h }

@@ -1,11 +1,11 @@
 -- Places that are filled one by one from a list: those filled so far are the list's first, and the others still hold what they were made with.
 use mathlib.Core.Path.{_≡_, sym, _∙_, ap}
 use mathlib.Core.List.{List, _++_}
-use Prim.Native.Nat.{ℕ, suc, _+_, _-_, _≤_, _<_}
+use Prim.Native.Nat.{ℕ, suc, _+_, _-_, _<_}
 use native.Mathlib.Nat.{sub-zero}
 use native.Mathlib.Numerals.{add-one}
 use native.Mathlib.Omega.{arith}
-use lib.ListN.{length, take, getD, set, replicate, length-append, length-replicate}
+use lib.ListN.{length, take, getD, set, replicate}
 use lib.Seq.{take-suc, take-length, length-take-le, set-at, append-snoc}
 
 -- w places, of which the first i are filled from l and the others hold z
@@ -18,9 +18,6 @@ module _ {A : Type 0} (l : List A) (z : A) (w : ℕ) where
 
   pub filled-all : filled l z w (length l) ≡ l ++ replicate (w - length l) z
   filled-all = ap (λ t. t ++ replicate (w - length l) z) (take-length l)
-
-  pub filled-length : (i : ℕ) → i ≤ length l → i ≤ w → length (filled l z w i) ≡ w
-  filled-length i h k = omega (arith, length-append (take i l) (replicate (w - i) z), length-take-le i l h, length-replicate (w - i) z)
 
   pub filled-step : (i : ℕ) → i < length l → i < w → set (filled l z w i) i (getD l i z) ≡ filled l z w (i + 1)
   filled-step i h k =

@@ -1,9 +1,9 @@
--- The laws of `lowest`, `some` and `every`. The lowest index is told by four facts, which only one number has: so a law that names it checks those facts.
+-- The laws of `lowest` and `every`. The lowest index is told by four facts, which only one number has: so a law that names it checks those facts.
 use mathlib.Core.Path.{_≡_, refl, sym, _∙_, ap}
 use mathlib.Core.Bool.{Bool, true, false, not, cond, false≢true}
 use mathlib.Core.Logic.{⊎-elim}
 use Prim.Native.Nat.{ℕ, zero, suc, _+_, _≤_, _<_}
-use native.Mathlib.Nat.{eq-or-lt-of-le}
+use native.Mathlib.Nat.{eq-or-lt-of-le, le-of-suc-le-suc}
 use native.Mathlib.Omega.{arith}
 use lib.Dec.{eqb}
 use borrow.Author.Tests.{eqb-true, eqb-false, eq-eqb, ne-eqb, not-true, not-false}
@@ -97,3 +97,7 @@ every-false f n i h e = ne-eqb (lowest (λ i. not (f i)) n) n (λ q. absurd (ome
 pub every-cong : (f g : ℕ → Bool) (n : ℕ) → ((i : ℕ) → i < n → f i ≡ g i) → every f n ≡ every g n
 unfolding every
 every-cong f g n e = ap (λ k. eqb k n) (lowest-cong (λ i. not (f i)) (λ i. not (g i)) n (λ i h. ap not (e i h)))
+
+-- what holds at each index below n, and at n, holds at each below n + 1
+pub below-suc : (Q : ℕ → Type 0) (n : ℕ) → ((l : ℕ) → l < n → Q l) → Q n → (l : ℕ) → l < suc n → Q l
+below-suc Q n f q l h = ⊎-elim (λ e. rw e q) (f l) (eq-or-lt-of-le (le-of-suc-le-suc h))

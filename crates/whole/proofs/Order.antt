@@ -1,16 +1,16 @@
--- The order of the integers: transitivity, sums, products, cancellation of a positive factor, fractions, and the cases.
-use mathlib.Core.Path.{_≡_, refl}
+-- The order of the integers: transitivity, sums, products, cancellation of a positive factor, the cases, and a line that rises.
+use mathlib.Core.Path.{_≡_, refl, sym, ap, _∙_}
 use mathlib.Core.Logic.{_⊎_, inl, inr, ⊎-elim}
 use mathlib.Core.List.{[], _∷_}
 use Rattle.whole.proofs.Ring.{reps}
 use Rattle.whole.proofs.Linear.{ints, lin≤, ≤lin, lin<, <lin}
-use mathlib.Core.Bool.{Bool, true, false}
+use mathlib.Core.Bool.{Bool, true, false, not}
 use Prim.Native.Nat.{zero, suc, _*_}
 use native.Mathlib.Omega.{arith}
 use lib.Dec.{le→leb, lt→ltb}
-use lib.IntN.{ℤ, pos, negsuc, _*ℤ_, _-ℤ_}
-use lib.Signed.{_≤ℤ_, _<ℤ_, leZ, clashℤ}
-use Rattle.whole.proofs.Parts.{diff, split}
+use lib.IntN.{ℤ, pos, negsuc, negℤ, _+ℤ_, _*ℤ_, _-ℤ_}
+use lib.Signed.{_≤ℤ_, _<ℤ_, ltZ, leZ, clashℤ}
+use Rattle.whole.proofs.Parts.{P-neg, N-neg, diff, split}
 
 -- ---- linear, each by its integers as differences of naturals
 pub ≤-trans : (a b c : ℤ) → a ≤ℤ b → b ≤ℤ c → a ≤ℤ c
@@ -62,6 +62,14 @@ pub sq-nonneg : (a : ℤ) → pos 0 ≤ℤ (a *ℤ a)
 sq-nonneg (pos a) = record { le = le→leb 0 (a * a) (omega arith) }
 sq-nonneg (negsuc a) = record { le = le→leb 0 (suc a * suc a) (omega arith) }
 
+pub sq-zero : (a : ℤ) → (a *ℤ a) ≤ℤ pos 0 → a ≡ pos 0
+sq-zero (pos zero) h = refl
+sq-zero (pos (suc n)) h = clashℤ (mul-pos (pos (suc n)) (pos (suc n)) (omega ints) (omega ints)) h
+sq-zero (negsuc n) h = clashℤ (mul-pos (pos (suc n)) (pos (suc n)) (omega ints) (omega ints)) h
+
+pub neg-nonneg : (a : ℤ) → a ≤ℤ pos 0 → pos 0 ≤ℤ negℤ a
+neg-nonneg a h = omega (ints, P-neg a, N-neg a)
+
 pub mul-≤ : (a b c : ℤ) → a ≤ℤ b → pos 0 ≤ℤ c → (a *ℤ c) ≤ℤ (b *ℤ c)
 mul-≤ a b c h k =
     let ρ = a ∷ b ∷ c ∷ [] in
@@ -80,3 +88,28 @@ cancel-< a b c k h = ⊎-elim (λ l. clashℤ h (mul-≤ b a c l (<-le (pos 0) c
 
 pub cancel-≡ : (a b c : ℤ) → pos 0 <ℤ c → a *ℤ c ≡ b *ℤ c → a ≡ b
 cancel-≡ a b c k e = ≤-antisym a b (cancel-≤ a b c k (omega ints)) (cancel-≤ b a c k (omega ints))
+
+leZ-not : (x y : ℤ) → leZ x y ≡ not (ltZ y x)
+leZ-not x y = go (ltZ y x) refl
+  where
+    go : (t : Bool) → ltZ y x ≡ t → leZ x y ≡ not t
+    go true e = omega ints
+    go false e = omega ints
+
+-- ---- where k is above zero, z goes to k·z + c, which keeps the order
+module _ (k c : ℤ) (h : pos 0 <ℤ k) where
+  pub ltZ-line : (x y : ℤ) → ltZ (k *ℤ x +ℤ c) (k *ℤ y +ℤ c) ≡ ltZ x y
+  ltZ-line x y = go (ltZ x y) refl
+    where
+      go : (t : Bool) → ltZ x y ≡ t → ltZ (k *ℤ x +ℤ c) (k *ℤ y +ℤ c) ≡ t
+      go true e =
+          let ρ = k ∷ c ∷ x ∷ y ∷ [] in
+          let l : (k *ℤ x +ℤ c) <ℤ (k *ℤ y +ℤ c) = <lin ρ (search reps depth 12) tt (omega (arith, lin< ρ (search reps depth 12) tt (mul-< x y k (omega ints) h))) in
+          omega ints
+      go false e =
+          let ρ = k ∷ c ∷ x ∷ y ∷ [] in
+          let l : (k *ℤ y +ℤ c) ≤ℤ (k *ℤ x +ℤ c) = ≤lin ρ (search reps depth 12) tt (omega (arith, lin≤ ρ (search reps depth 12) tt (mul-≤ y x k (omega ints) (<-le (pos 0) k h)))) in
+          omega ints
+
+  pub leZ-line : (x y : ℤ) → leZ (k *ℤ x +ℤ c) (k *ℤ y +ℤ c) ≡ leZ x y
+  leZ-line x y = leZ-not (k *ℤ x +ℤ c) (k *ℤ y +ℤ c) ∙ ap not (ltZ-line y x) ∙ sym (leZ-not x y)

@@ -1,6 +1,6 @@
 -- When a contract leaves no choice.
 --   Determined C shown    any two outcomes that the contract C allows for one input show the same: the results, and what is lent at exit
---     C a r e             that for the parameters a the contract allows the result r and the parameters e at exit
+--     C a r e             that for the parameters a the contract allows the result r and the parameters e at exit. Of a function F it is F.Learnt, made from F's `ensures` in the source
 --     shown r e           what of an outcome is the caller's: the result, and the bytes behind each &mut
 use mathlib.Core.Path.{_≡_}
 

@@ -1,0 +1,82 @@
+-- The numbers of a move by their places: before the coordinates, A's coordinates, B's coordinates; and of a refused line's move they are all zero.
+use mathlib.Core.Path.{_≡_, refl, sym, _∙_, ap}
+use mathlib.Core.Logic.{_≢_}
+use mathlib.Core.List.{List, [], _∷_, _++_}
+use Prim.Native.Nat.{ℕ, zero, suc, _+_, _*_, _<_}
+use native.Mathlib.Decide.{ℕ-discrete}
+use native.Mathlib.Omega.{arith}
+use lib.IntN.{pos}
+use lib.ListN.{length, getD, replicate, length-append, List·getD-append}
+use lib.Seq.{getD-append-add}
+use borrow.Author.Tests.{ne-eqb}
+use Rattle.plane.specs.Edges.{corner}
+use Rattle.plane.specs.declared.Corner.{Corner}
+use Rattle.outline.specs.Held.{Kept}
+use Rattle.outline.proofs.Testing.{held-kept}
+use Rattle.verdict.specs.Move.{nothing}
+use Rattle.verdict.specs.HeldMove.{heldMove}
+use Rattle.verdict.specs.declared.HeldMove.{HeldMove}
+use Rattle.frame.specs.Reading.{refusalOfLine, moveOfLine}
+use Rattle.verdict.proofs.Listed.{held-accepted}
+use Rattle.frame.proofs.RoundTrip.{accepted}
+use Rattle.stonefruitle_c.specs.Numbers.{coordinates, heading, numbers}
+
+-- ---- one outline's coordinates
+pub coordinates-x : (A : List Corner) (k : ℕ) → getD (coordinates A) (2 * k) (pos 0) ≡ corner A k .x
+unfolding coordinates
+coordinates-x [] k = refl
+coordinates-x (p ∷ A) zero = refl
+coordinates-x (p ∷ A) (suc k) = ap (λ n. getD (p .x ∷ p .y ∷ coordinates A) n (pos 0)) (next k) ∙ coordinates-x A k
+  where
+    next : (k : ℕ) → 2 * suc k ≡ suc (suc (2 * k))
+    next k = omega arith
+
+pub coordinates-y : (A : List Corner) (k : ℕ) → getD (coordinates A) (2 * k + 1) (pos 0) ≡ corner A k .y
+unfolding coordinates
+coordinates-y [] k = refl
+coordinates-y (p ∷ A) zero = refl
+coordinates-y (p ∷ A) (suc k) = ap (λ n. getD (p .x ∷ p .y ∷ coordinates A) n (pos 0)) (next k) ∙ coordinates-y A k
+  where
+    next : (k : ℕ) → 2 * suc k + 1 ≡ suc (suc (2 * k + 1))
+    next k = omega arith
+
+pub coordinates-length : (A : List Corner) → length (coordinates A) ≡ 2 * length A
+unfolding coordinates
+coordinates-length [] = refl
+coordinates-length (p ∷ A) = omega (arith, coordinates-length A)
+
+-- ---- all numbers of a move
+module _ (m : HeldMove) (p : Kept (m .a)) (q : Kept (m .b)) where
+  a-length : length (coordinates (m .a .corners)) ≡ 32
+  a-length = omega (arith, coordinates-length (m .a .corners), p .places)
+
+  pub numbers-length : length (numbers m) ≡ 71
+  numbers-length = omega (arith, a-length, coordinates-length (m .b .corners), q .places, length-append (coordinates (m .a .corners)) (coordinates (m .b .corners)))
+
+  pub numbers-head : (i : ℕ) → i < 7 → getD (numbers m) i (pos 0) ≡ getD (heading m) i (pos 0)
+  numbers-head i h = List·getD-append (heading m) (coordinates (m .a .corners) ++ coordinates (m .b .corners)) (pos 0) i h
+
+  pub numbers-a : (k : ℕ) → k < 32 → getD (numbers m) (7 + k) (pos 0) ≡ getD (coordinates (m .a .corners)) k (pos 0)
+  numbers-a k h = getD-append-add (heading m) (coordinates (m .a .corners) ++ coordinates (m .b .corners)) k (pos 0) ∙ List·getD-append (coordinates (m .a .corners)) (coordinates (m .b .corners)) (pos 0) k (omega (arith, a-length))
+
+  pub numbers-b : (k : ℕ) → getD (numbers m) (7 + (32 + k)) (pos 0) ≡ getD (coordinates (m .b .corners)) k (pos 0)
+  numbers-b k =
+      getD-append-add (heading m) (coordinates (m .a .corners) ++ coordinates (m .b .corners)) (32 + k) (pos 0)
+      ∙ ap (λ n. getD (coordinates (m .a .corners) ++ coordinates (m .b .corners)) (n + k) (pos 0)) (sym a-length)
+      ∙ getD-append-add (coordinates (m .a .corners)) (coordinates (m .b .corners)) k (pos 0)
+
+-- ---- the move of a line
+nothing-line : (l : List ℕ) → refusalOfLine l ≢ 0 → moveOfLine l ≡ nothing
+unfolding moveOfLine
+nothing-line l n = simp (ne-eqb (refusalOfLine l) 0 n)
+
+pub line-kept : (l : List ℕ) → Kept (heldMove (moveOfLine l) .a) × Kept (heldMove (moveOfLine l) .b)
+line-kept l = go (ℕ-discrete (refusalOfLine l) 0)
+  where
+    go : Dec (refusalOfLine l ≡ 0) → Kept (heldMove (moveOfLine l) .a) × Kept (heldMove (moveOfLine l) .b)
+    go (yes e) = let f = held-accepted (moveOfLine l) (accepted l e) .0 in (f .held-a .kept, f .held-b .kept)
+    go (no n) = rw (nothing-line l n) (held-kept [] (omega arith), held-kept [] (omega arith))
+
+pub refused-zeros : (l : List ℕ) → refusalOfLine l ≢ 0 → numbers (heldMove (moveOfLine l)) ≡ replicate 71 (pos 0)
+unfolding coordinates
+refused-zeros l n = ap (λ m. numbers (heldMove m)) (nothing-line l n)

@@ -1,0 +1,18 @@
+-- The 71 numbers of a move as it is held: limit, velocity of A, velocity of B, count of A, count of B, the coordinates of A's sixteen places, those of B's.
+--   coordinates A    the coordinates x, y, x, y, .. of the corners A
+--   heading m        the seven numbers before the coordinates
+--   numbers m        all of them; of a refused line's move they are all zero
+use mathlib.Core.List.{List, [], _∷_, _++_}
+use lib.IntN.{ℤ, pos}
+use Rattle.plane.specs.declared.Corner.{Corner}
+use Rattle.verdict.specs.declared.HeldMove.{HeldMove}
+
+unfoldable pub coordinates : List Corner → List ℤ
+coordinates [] = []
+coordinates (p ∷ A) = p .x ∷ p .y ∷ coordinates A
+
+abbrev pub heading : HeldMove → List ℤ
+heading m = m .limit ∷ m .va .x ∷ m .va .y ∷ m .vb .x ∷ m .vb .y ∷ pos (m .a .count) ∷ pos (m .b .count) ∷ []
+
+abbrev pub numbers : HeldMove → List ℤ
+numbers m = heading m ++ (coordinates (m .a .corners) ++ coordinates (m .b .corners))
