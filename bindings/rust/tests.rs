@@ -259,7 +259,7 @@ fn outlines_of_the_cases() {
 }
 
 // ---------------------------------------------------------------------------
-// Helpers
+// What the tests share
 
 fn number<T>(answer: Result<T, Refusal>) -> u8 {
     answer.map_or_else(Refusal::number, |_| 0)
