@@ -335,34 +335,35 @@ pub fn answer_line_into(line: &[u8], out: &mut [u8]) -> Written {
 
 /// The answer line to a move handed in as numbers, into a lent buffer, likewise.
 pub fn answer_lists_into(m: &Move, out: &mut [u8]) -> Written {
-    let mut bytes = 0;
-    let refusal = unsafe {
-        stonefruitle_answer_lists(
-            m.a.as_ptr(),
-            m.a.len(),
-            m.b.as_ptr(),
-            m.b.len(),
-            m.velocity_a.0,
-            m.velocity_a.1,
-            m.velocity_b.0,
-            m.velocity_b.1,
-            m.limit,
-            out.as_mut_ptr(),
-            out.len(),
-            &mut bytes,
-        )
-    };
-    Written {
-        refusal: Refusal::returned(refusal),
-        bytes,
-    }
+    into(stonefruitle_answer_lists, m, out)
 }
 
 /// The line of a move, into a lent buffer. Any refusal writes nothing.
 pub fn write_move_into(m: &Move, out: &mut [u8]) -> Written {
+    into(stonefruitle_write_move, m, out)
+}
+
+/// The two functions that take a move as numbers and write a line.
+type FromLists = unsafe extern "C" fn(
+    *const i64,
+    usize,
+    *const i64,
+    usize,
+    i64,
+    i64,
+    i64,
+    i64,
+    i64,
+    *mut u8,
+    usize,
+    *mut usize,
+) -> u8;
+
+fn into(call: FromLists, m: &Move, out: &mut [u8]) -> Written {
     let mut bytes = 0;
+    // As above: the lengths are those of the lists and of the buffer.
     let refusal = unsafe {
-        stonefruitle_write_move(
+        call(
             m.a.as_ptr(),
             m.a.len(),
             m.b.as_ptr(),
