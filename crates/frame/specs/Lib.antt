@@ -2,6 +2,7 @@ pub mod Bytes
 pub mod Hex
 pub mod MoveFrame
 pub mod AnswerFrame
+pub mod Over
 pub mod Reading
 pub mod Framed
 pub mod Answers

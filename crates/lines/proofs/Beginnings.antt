@@ -1,6 +1,6 @@
 -- What is held of a line begun: the bytes and nothing else, so a line begun and a piece more are again the first 283 bytes of the two.
 use mathlib.Core.Path.{_≡_, sym, _∙_, ap}
-use mathlib.Core.List.{List, _++_}
+use mathlib.Core.List.{List, [], _++_}
 use Prim.Native.Nat.{ℕ, _+_, _-_, _≤_, _<_, min}
 use native.Mathlib.Omega.{arith}
 use lib.ListN.{length, take, getD, set, replicate, length-take, length-append}
@@ -22,11 +22,17 @@ held-count b h = sym (ap (λ e. e .count) (h .is))
 pub held-within : (b : Begun) → Holds b → b .count ≤ length (b .bytes)
 held-within b h = omega (arith, held-count b h, length-take (b .count) (b .bytes))
 
+pub none-held : (b : Begun) → Holds b → b .count ≡ 0 → begunBytes b ≡ []
+none-held b h e = ap (λ n. take n (b .bytes)) e
+
 pub kept-length : (l : List ℕ) → length (kept l) ≤ 283
 kept-length l = omega (arith, length-take 283 l)
 
 pub kept-holds : (l : List ℕ) → Holds (begunWith (kept l))
 kept-holds l = begun-holds (kept l) (kept-length l)
+
+pub kept-held : {b : Begun} (l : List ℕ) → b ≡ begunWith (kept l) → Holds b
+kept-held l e = rw e (kept-holds l)
 
 -- ---- the line begun with b, and a piece p more
 module _ (b : Begun) (held : Holds b) (p : List ℕ) where

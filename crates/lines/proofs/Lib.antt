@@ -3,6 +3,7 @@ pub mod Joined
 pub mod Chunks
 pub mod Taken
 pub mod Parts
+pub mod Room
 pub mod Beginnings
 pub mod Feeds
 pub mod Program

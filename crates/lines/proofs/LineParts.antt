@@ -5,11 +5,11 @@ use mathlib.Core.List.{List, [], _∷_}
 use mathlib.Core.Bool.{Bool, true, false, cond}
 use native.Mathlib.Numerals.{add-one}
 use native.Mathlib.Omega.{arith}
-use lib.ListN.{length, getD, take, drop}
+use lib.ListN.{length, getD, take, drop, length-drop, drop-of-length-le}
 use lib.Seq.{drop-cons}
 use borrow.Author.Tests.{eq-eqb, ne-eqb}
 use lib.Dec.{eqb}
-use Rattle.lines.specs.Taking.{lineOf}
+use Rattle.lines.specs.Taking.{lineOf, lineAt}
 
 pub line-stop : (s : List ℕ) (i : ℕ) → i < length s → getD s i 0 ≡ 10 → lineOf (drop i s) ≡ []
 unfolding lineOf
@@ -36,3 +36,12 @@ pub line-within : (l : List ℕ) → length (lineOf l) ≤ length l
 unfolding lineOf
 line-within [] = omega arith
 line-within (x ∷ xs) = within-step (eqb x 10) x xs (lineOf xs) (line-within xs)
+
+-- the line at a position ends within the input
+pub line-end-within : (s : List ℕ) (at : ℕ) → at ≤ length s → at + length (lineAt s at) ≤ length s
+line-end-within s at h = omega (arith, line-within (drop at s), length-drop at s)
+
+-- where no byte is left it is empty
+pub none-at : (s : List ℕ) (at : ℕ) → length s ≤ at → [] ≡ lineAt s at
+unfolding lineOf
+none-at s at h = rw (drop-of-length-le s h)

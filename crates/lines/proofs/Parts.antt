@@ -17,7 +17,7 @@ use Rattle.frame.specs.AnswerFrame.{answerLine}
 use Rattle.frame.specs.Reading.{refusalOfLine, answerOfLine}
 use Rattle.lines.specs.Lines.{linesFrom}
 use Rattle.lines.specs.Chunks.{finished, unfinished}
-use Rattle.lines.specs.Output.{output}
+use Rattle.lines.specs.Output.{answerTo, output}
 use Rattle.lines.specs.Stream.{answersTo, lastAnswer, kept}
 use Rattle.lines.proofs.Chunks.{finished-append, linesFrom-finished}
 
@@ -29,24 +29,24 @@ flatMap-append f (l ∷ x) y = ap (λ t. f l ++ t) (flatMap-append f x y) ∙ sy
 
 pub answers-append : (u x y : List ℕ) → answersTo u (x ++ y) ≡ answersTo u x ++ answersTo (unfinished u x) y
 unfolding answersTo
-answers-append u x y = ap (flatMap (λ l. answerLine (answerOfLine l))) (finished-append u x y) ∙ flatMap-append (λ l. answerLine (answerOfLine l)) (finished u x) (finished (unfinished u x) y)
+answers-append u x y = ap (flatMap (λ l. answerTo l)) (finished-append u x y) ∙ flatMap-append (λ l. answerTo l) (finished u x) (finished (unfinished u x) y)
 
 -- the answer to what stands begun when the input ends
-last-answer : (u : List ℕ) → flatMap (λ l. answerLine (answerOfLine l)) (linesFrom u []) ≡ lastAnswer u
+last-answer : (u : List ℕ) → flatMap (λ l. answerTo l) (linesFrom u []) ≡ lastAnswer u
 unfolding linesFrom lastAnswer flatMap
 last-answer u = go (eqb (length u) 0)
   where
-    go : (t : Bool) → flatMap (λ l. answerLine (answerOfLine l)) (cond t [] (u ∷ [])) ≡ cond t [] (answerLine (answerOfLine u))
+    go : (t : Bool) → flatMap (λ l. answerTo l) (cond t [] (u ∷ [])) ≡ cond t [] (answerTo u)
     go true = refl
-    go false = append-nil (answerLine (answerOfLine u))
+    go false = append-nil (answerTo u)
 
 -- the whole output: the lines that are closed, and the one that is not
 pub output-is : (s : List ℕ) → output s ≡ answersTo [] s ++ lastAnswer (unfinished [] s)
 unfolding output answersTo
 output-is s =
-    ap (flatMap (λ l. answerLine (answerOfLine l))) (linesFrom-finished [] s)
-    ∙ flatMap-append (λ l. answerLine (answerOfLine l)) (finished [] s) (linesFrom (unfinished [] s) [])
-    ∙ ap (λ t. flatMap (λ l. answerLine (answerOfLine l)) (finished [] s) ++ t) (last-answer (unfinished [] s))
+    ap (flatMap (λ l. answerTo l)) (linesFrom-finished [] s)
+    ∙ flatMap-append (λ l. answerTo l) (finished [] s) (linesFrom (unfinished [] s) [])
+    ∙ ap (λ t. flatMap (λ l. answerTo l) (finished [] s) ++ t) (last-answer (unfinished [] s))
 
 -- ---- a line of more than 282 bytes is refused
 and-never : (s t : Bool) → (s && (t && false)) ≡ false
@@ -86,7 +86,7 @@ alike-answers u v [] e = refl
 alike-answers u v (c ∷ s) e = go (eqb c 10) (alike-answers (u ++ (c ∷ [])) (v ++ (c ∷ [])) s (alike-append u v (c ∷ []) e))
   where
     says : List (List ℕ) → List ℕ
-    says ls = flatMap (λ l. answerLine (answerOfLine l)) ls
+    says ls = flatMap (λ l. answerTo l) ls
 
     go : (t : Bool) → says (finished (u ++ (c ∷ [])) s) ≡ says (finished (v ++ (c ∷ [])) s) → says (cond t (u ∷ finished [] s) (finished (u ++ (c ∷ [])) s)) ≡ says (cond t (v ∷ finished [] s) (finished (v ++ (c ∷ [])) s))
     go true h = ap (λ r. answerLine r ++ says (finished [] s)) (alike-answer u v e)
@@ -115,6 +115,9 @@ kept-append u s = alike-append (kept u) u s (kept-alike u)
 
 pub answer-kept : (u : List ℕ) → answerOfLine (kept u) ≡ answerOfLine u
 answer-kept u = alike-answer (kept u) u (kept-alike u)
+
+pub answer-kept-append : (u s : List ℕ) → answerOfLine (kept u ++ s) ≡ answerOfLine (u ++ s)
+answer-kept-append u s = alike-answer (kept u ++ s) (u ++ s) (alike-append (kept u) u s (kept-alike u))
 
 none-kept : (u : List ℕ) → eqb (length (kept u)) 0 ≡ eqb (length u) 0
 none-kept [] = refl

@@ -8,7 +8,7 @@ use native.Mathlib.Decide.{decLe}
 use lib.Dec.{ltb, eqb, eqb·suc-zero}
 use lib.ListN.{length, drop, length-append, length-drop, drop-of-length-le}
 use lib.Seq.{drop-drop}
-use borrow.Author.Tests.{ltb-true, ltb-false}
+use borrow.Author.Tests.{ltb-true, ltb-false, lt-ltb, le-ltb}
 use Rattle.lines.specs.Lines.{linesFrom}
 use Rattle.lines.specs.Taking.{lineOf, lineAt, isAt, nextAt}
 use Rattle.lines.specs.Chunks.{finished, unfinished}
@@ -31,6 +31,13 @@ drop-min k s = go (decLe k (length s))
     go : Dec (k ≤ length s) → drop (min k (length s)) s ≡ drop k s
     go (yes h) = let e : min k (length s) ≡ k = omega arith in ap (λ n. drop n s) e
     go (no h) = drop-of-length-le s {i = min k (length s)} (omega arith) ∙ sym (drop-of-length-le s {i = k} (omega arith))
+
+-- where a byte is left, the next line starts past this one and its 0a, or at the input's end
+pub next-is : (s : List ℕ) (at : ℕ) → at < length s → nextAt s at ≡ min (at + length (lineAt s at) + 1) (length s)
+next-is s at h = simp (lt-ltb at (length s) h)
+
+pub next-none : (s : List ℕ) (at : ℕ) → length s ≤ at → nextAt s at ≡ at
+next-none s at h = simp (le-ltb at (length s) h)
 
 -- what is left from a position on: a line, and what is left after it
 pub lines-taken : (s : List ℕ) (at : ℕ) → linesFrom [] (drop at s) ≡ cond (isAt s at) (lineAt s at ∷ linesFrom [] (drop (nextAt s at) s)) []

@@ -7,15 +7,14 @@ use mathlib.Core.List.{List, [], flatMap}
 use Prim.Native.Nat.{ℕ}
 use lib.Dec.{eqb}
 use lib.ListN.{length, take}
-use Rattle.frame.specs.AnswerFrame.{answerLine}
-use Rattle.frame.specs.Reading.{answerOfLine}
 use Rattle.lines.specs.Chunks.{finished}
+use Rattle.lines.specs.Output.{answerTo}
 
 unfoldable pub answersTo : List ℕ → List ℕ → List ℕ
-answersTo u s = flatMap (λ l. answerLine (answerOfLine l)) (finished u s)
+answersTo u s = flatMap (λ l. answerTo l) (finished u s)
 
 unfoldable pub lastAnswer : List ℕ → List ℕ
-lastAnswer u = cond (eqb (length u) 0) [] (answerLine (answerOfLine u))
+lastAnswer u = cond (eqb (length u) 0) [] (answerTo u)
 
 abbrev pub kept : List ℕ → List ℕ
 kept u = take 283 u

@@ -1,6 +1,6 @@
 // Lines of an input and the answers to them.
 ghost use mathlib.Core.Path.{_≡_};
-ghost use Prim.Native.Nat.{_+_, _≤_};
+ghost use Prim.Native.Nat.{_+_, _≤_, min};
 ghost use lib.ListN.{length};
 ghost use Rattle.lines.specs.Taking.{lineAt, isAt, nextAt};
 
@@ -12,10 +12,9 @@ pub struct Begun {
     pub count: usize,
 }
 
-// What feeding a part did: the line that stands begun after it, how much of the part was taken, how many bytes were written.
+// What feeding a part did: the line that stands begun after it, and how many bytes were written.
 pub struct Fed {
     pub begun: Begun,
-    pub taken: usize,
     pub written: usize,
 }
 
@@ -34,26 +33,11 @@ fn line_end(input: &[u8], at: usize) -> usize
     end
 }
 
-// The line that starts at `at`, as that part of the input; an empty part where no byte is left.
-fn line_at(input: &[u8], at: usize) -> &[u8]
-    ensures { λ r. ⌜ now r ≡ lineAt (now (input .entry)) at ⌝ }
+// Where the next line starts: past the 0a at `end`, or at the input's end.
+fn past(input: &[u8], end: usize) -> usize
+    requires { ⌜ end ≤ length (now input) ⌝ }
+    ensures { λ r. ⌜ r ≡ min (end + 1) (length (now (input .entry))) ⌝ }
 {
-    if at <= input.len() {
-        let end = line_end(input, at);
-        &input[at..end]
-    } else {
-        &input[..0]
-    }
-}
-
-// Where the next line starts; `at` itself where no byte is left.
-fn next_at(input: &[u8], at: usize) -> usize
-    ensures { λ r. ⌜ r ≡ nextAt (now (input .entry)) at ⌝ }
-{
-    if input.len() <= at {
-        return at;
-    }
-    let end = line_end(input, at);
     if end < input.len() {
         return end + 1;
     }
@@ -67,6 +51,10 @@ pub fn take_line<'a>(input: &'a [u8], at: &mut usize, some: &mut bool) -> &'a [u
 {
     let from = *at;
     *some = from < input.len();
-    *at = next_at(input, from);
-    line_at(input, from)
+    if input.len() <= from {
+        return &input[..0];
+    }
+    let end = line_end(input, from);
+    *at = past(input, end);
+    &input[from..end]
 }

@@ -2,10 +2,12 @@
 ghost use mathlib.Core.Path.{_≡_};
 ghost use mathlib.Core.List.{[], _++_};
 ghost use Prim.Native.Nat.{_≤_};
-ghost use lib.ListN.{length, drop};
-ghost use Rattle.lines.specs.Stream.{kept, lastAnswer};
+ghost use lib.ListN.{length};
+ghost use Rattle.frame.specs.Over.{over};
+ghost use Rattle.lines.specs.Output.{answerTo};
+ghost use Rattle.lines.specs.Stream.{answersTo, kept, lastAnswer};
 ghost use Rattle.lines.specs.Begun.{begunWith, begunBytes, Holds};
-ghost use Rattle.lines.specs.Feeding.{Feeds};
+ghost use Rattle.lines.specs.Feeding.{answersRoom, fed};
 use super::Begun;
 use super::Fed;
 
@@ -41,55 +43,53 @@ fn extended(b: Begun, piece: &[u8]) -> Begun
     }
 }
 
-// Takes lines off a part of the input and writes their answers, as long as `out` has room for one more. The line that the part
-// leaves open stands begun.
+// Writes the answer to the line begun with b that the piece closes, and returns its length. Only a line of which a part came before is put together first.
+fn put_closed(b: Begun, piece: &[u8], out: &mut [u8]) -> usize
+    requires { ⌜ Holds b × (45 ≤ length (now out)) ⌝ }
+    ensures { λ n. ⌜ (n ≡ length (answerTo (begunBytes b ++ now (piece .entry)))) × (now (out .exit) ≡ over (answerTo (begunBytes b ++ now (piece .entry))) (now (out .entry))) ⌝ }
+{
+    let count = b.count;
+    if count == 0 {
+        return frame::put_answer_of_line(piece, out);
+    }
+    let e = extended(b, piece);
+    let n = e.count;
+    let bytes = e.bytes;
+    frame::put_answer_of_line(&bytes[..n], out)
+}
+
+// Takes the lines of a part of the input and writes their answers over the first bytes of `out`. The line that the part leaves open stands begun.
 pub fn feed(b: Begun, input: &[u8], out: &mut [u8]) -> Fed
-    requires { ⌜ Holds b ⌝ }
-    ensures { λ r. ⌜ Feeds (begunBytes b) (now (input .entry)) (now (out .entry)) r (now (out .exit)) ⌝ }
+    requires { ⌜ Holds b × (answersRoom (length (now input)) ≤ length (now out)) ⌝ }
+    ensures { λ r. ⌜ (r ≡ fed (begunBytes b) (now (input .entry))) × (now (out .exit) ≡ over (answersTo (begunBytes b) (now (input .entry))) (now (out .entry))) ⌝ }
 {
     let mut begun = b;
     let mut at: usize = 0;
+    let mut some = false;
     let mut written: usize = 0;
     while at < input.len() {
-        if out.len() - written < 45 {
-            return Fed {
-                begun,
-                taken: at,
-                written,
-            };
+        let from = at;
+        let line = super::take_line(input, &mut at, &mut some);
+        if from + line.len() == at {
+            begun = extended(begun, line);
+            return Fed { begun, written };
         }
-        let end = super::line_end(input, at);
-        begun = extended(begun, &input[at..end]);
-        if end == input.len() {
-            return Fed {
-                begun,
-                taken: end,
-                written,
-            };
-        }
-        let bytes = begun.bytes;
-        let count = begun.count;
-        let n = frame::put_answer_of_line(&bytes[..count], &mut out[written..]);
+        let n = put_closed(begun, line, &mut out[written..]);
         written += n;
         begun = none();
-        at = end + 1;
     }
-    Fed {
-        begun,
-        taken: at,
-        written,
-    }
+    Fed { begun, written }
 }
 
 // Writes the answer to what stands begun at the end of the input, and returns its length: 0 where nothing does.
 pub fn finish(b: Begun, out: &mut [u8]) -> usize
     requires { ⌜ Holds b × (45 ≤ length (now out)) ⌝ }
-    ensures { λ n. ⌜ (n ≡ length (lastAnswer (begunBytes b))) × (now (out .exit) ≡ lastAnswer (begunBytes b) ++ drop (length (lastAnswer (begunBytes b))) (now (out .entry))) ⌝ }
+    ensures { λ n. ⌜ (n ≡ length (lastAnswer (begunBytes b))) × (now (out .exit) ≡ over (lastAnswer (begunBytes b)) (now (out .entry))) ⌝ }
 {
-    let count = b.count;
-    if count == 0 {
+    let held = b.count;
+    if held == 0 {
         return 0;
     }
     let bytes = b.bytes;
-    frame::put_answer_of_line(&bytes[..count], out)
+    frame::put_answer_of_line(&bytes[..held], out)
 }

@@ -1,62 +1,133 @@
-// The program: lines on standard input, the answer line of each on standard output. It only reads, feeds and writes; what is
-// written for what was read is the contract of lines::stream::feed and finish.
-ghost use Rattle.lines.specs.Begun.{Holds};
+// The program: lines on standard input, the answer line of each on standard output. `main` reads, asks what to do next, and writes;
+// what is written for what was read, and when it stops, is decided in `decisions`.
+ghost use mathlib.Core.Path.{_≡_};
+ghost use Prim.Native.Nat.{_-_, _≤_};
+ghost use lib.IntN.{pos};
+ghost use lib.ListN.{length};
+ghost use Rattle.stonefruitle.specs.Turns.{Moves, Ready, doing};
+ghost use Rattle.stonefruitle.specs.History.{Follows};
 use lines::Begun;
-use lines::stream;
 
-// What stands begun, and whether to go on.
-struct Turn {
-    on: bool,
-    begun: Begun,
+mod decisions; // what to do next
+
+// What a call of read or write brought: so many bytes moved, none, an interruption, or a failure.
+pub enum Came {
+    Bytes(usize),
+    Nothing,
+    Interruption,
+    Failure,
 }
 
-// Feeds a part of the input until all of it is taken, and writes the answers each time the room for them is used up.
-fn answer_part(b: Begun, part: &[u8]) -> Turn
-    requires { ⌜ Holds b ⌝ }
-    ensures { λ r. ⌜ Holds (r .begun) ⌝ }
-{
-    let mut out = io::large_buffer();
-    let mut begun = b;
-    let mut on = true;
-    let mut at: usize = 0;
-    while at < part.len() && on {
-        let f = stream::feed(begun, &part[at..], &mut out);
-        let n = f.written;
-        on = io::write_all(1, &out[..n]);
-        begun = f.begun;
-        at += f.taken;
-    }
-    Turn { on, begun }
+// What is to be done next: read on; write what stands to be written, and then read on or, where the input has ended, stop. Or stop:
+// all is written, a read failed, a write failed, a write took nothing.
+pub enum Next {
+    Read,
+    Write,
+    WriteLast,
+    Done,
+    NotRead,
+    NotWritten,
+    NotTaken,
 }
 
-// Reads what standard input has next, and answers it.
-fn answer_next(b: Begun) -> Turn
-    requires { ⌜ Holds b ⌝ }
-    ensures { λ r. ⌜ Holds (r .begun) ⌝ }
+// Between two calls: what is to be done next, the line that stands begun, and from where to where the output stands to be written.
+pub struct Turn {
+    pub next: Next,
+    pub begun: Begun,
+    pub from: usize,
+    pub to: usize,
+}
+
+// Room for a part of the input. The answers to a part of this length fit the output of 65,536 bytes, whatever its lines are.
+fn part_buffer() -> [u8; 8192]
+    ensures { λ r. ⌜ 8192 ≡ length r ⌝ }
 {
-    let mut part = io::large_buffer();
-    let got = libc::read(0, &mut part);
-    if got <= 0 {
-        return Turn {
-            on: false,
-            begun: b,
-        };
+    [0; 8192]
+}
+
+// Reads once.
+fn read_from(input: i32, part: &mut [u8]) -> Came
+    requires { ⌜ input ≡ pos 0 ⌝ }
+    ensures { λ r. ⌜ Moves r (length (now (part .exit))) ⌝ }
+{
+    let got = libc::read(input, part);
+    let count = io::count(got, part);
+    decisions::came(got, count, os::errno() == libc::EINTR)
+}
+
+// Writes once.
+fn write_to(output: i32, part: &[u8]) -> Came
+    requires { ⌜ output ≡ pos 1 ⌝ }
+    ensures { λ r. ⌜ Moves r (length (now (part .entry))) ⌝ }
+{
+    let got = libc::write(output, part);
+    let count = io::count(got, part);
+    decisions::came(got, count, os::errno() == libc::EINTR)
+}
+
+// Writes what stands to be written, once.
+fn write_once(t: Turn, out: &[u8]) -> Came
+    requires { ⌜ (t .from ≤ t .to) × (t .to ≤ length (now out)) ⌝ }
+    ensures { λ r. ⌜ Moves r (t .to - t .from) ⌝ }
+{
+    let from = t.from;
+    let to = t.to;
+    write_to(1, &out[from..to])
+}
+
+// One call of read or write, as t says, and what follows from what it brought.
+fn call_once(t: Turn, part: &mut [u8], out: &mut [u8]) -> Turn
+    requires { ⌜ Ready t (length (now part)) (now out) ⌝ }
+    ensures { λ r. ⌜ Ready r (length (now (part .exit))) (now (out .exit)) × Follows (doing t (now (out .entry))) (doing r (now (out .exit))) ⌝ }
+{
+    let next = t.next;
+    match next {
+        Next::Read => {
+            let c = read_from(0, part);
+            decisions::after_read(t, c, part, out)
+        }
+        Next::Write => {
+            let c = write_once(t, out);
+            decisions::after_write(t, c)
+        }
+        Next::WriteLast => {
+            let c = write_once(t, out);
+            decisions::after_write(t, c)
+        }
+        Next::Done => t,
+        Next::NotRead => t,
+        Next::NotWritten => t,
+        Next::NotTaken => t,
     }
-    let n = io::count(got, &part);
-    answer_part(b, &part[..n])
+}
+
+// Says on standard error, in a line, why the run ended before the end of the input and of the output. The system's words are those of the call that failed, the last one made.
+fn say(t: Turn) {
+    let next = t.next;
+    match next {
+        Next::Done => {}
+        Next::NotRead => os::fail(b"stonefruitle: reading standard input"),
+        Next::NotWritten => os::fail(b"stonefruitle: writing standard output"),
+        Next::NotTaken => {
+            io::write_all(
+                2,
+                b"stonefruitle: writing standard output: nothing was taken\n",
+            );
+        }
+        Next::Read | Next::Write | Next::WriteLast => {
+            io::write_all(2, b"stonefruitle: stopped before the end of the input\n");
+        }
+    }
 }
 
 fn main() {
-    let mut begun = stream::none();
-    let mut on = true;
+    let mut part = part_buffer();
+    let mut out = io::large_buffer();
+    let mut t = decisions::start();
     let mut turns = u64::MAX;
-    while turns > 0 && on {
-        let t = answer_next(begun);
-        on = t.on;
-        begun = t.begun;
+    while turns > 0 && decisions::goes_on(t) {
+        t = call_once(t, &mut part, &mut out);
         turns -= 1;
     }
-    let mut out = [0; 45];
-    let n = stream::finish(begun, &mut out);
-    io::write_all(1, &out[..n]);
+    say(t);
 }

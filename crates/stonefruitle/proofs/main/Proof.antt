@@ -1,29 +1,52 @@
--- The number of turns falls; what stands begun is held throughout.
-use mathlib.Core.Path.{ap, sym, subst}
+-- The number of turns falls; what the program is doing is what some run comes to.
+use mathlib.Core.Path.{_≡_, sym}
 use mathlib.Core.List.{[]}
 use native.Mathlib.Omega.{arith}
-use lib.ListN.{length, length-append}
-use lib.Seq.{length-take-le}
+use lib.ListN.{length}
 use borrow.Author.Needs.{needs}
-use Rattle.lines.specs.Begun.{Holds}
+use Rattle.stonefruitle.specs.Turns.{Ready, doing}
+use Rattle.stonefruitle.specs.History.{Reached}
+use Rattle.stonefruitle.proofs.Prefix.{reached-start, reached-next}
+use Rattle.stonefruitle.proofs.Turning.{ready-same}
 use Rattle.lines.proofs.Beginnings.{begun-holds}
 use Rattle.stonefruitle.proofs.main.Statement.{statement}
 use Rattle.stonefruitle.proofs.main.Tie as tie
 
 abbrev Inv-loop : tie.InvT-loop
-Inv-loop begun₀ on₀ turns₀ begun on turns = Holds begun
+Inv-loop part₀ out₀ t₀ turns₀ part out t turns = (length part ≡ 8192) × (length out ≡ 65536) × Ready t 8192 out × Reached (doing t out)
 
 abbrev μ-loop : tie.MeasureT-loop
-μ-loop begun₀ on₀ turns₀ begun on turns = turns
+μ-loop part₀ out₀ t₀ turns₀ part out t turns = turns
 
-none-requires : tie.Need-none-requires Inv-loop μ-loop
-none-requires c κs = search needs
+part-buffer-requires : tie.Need-part-buffer-requires Inv-loop μ-loop
+part-buffer-requires c κs = search needs
+
+large-buffer-requires : tie.Need-large-buffer-requires Inv-loop μ-loop
+large-buffer-requires c κs = search needs
+
+start-requires : tie.Need-start-requires Inv-loop μ-loop
+start-requires c κs = search needs
 
 loop-holds : tie.Need-loop-holds Inv-loop μ-loop
-loop-holds c = subst Holds (sym (c .none .ensures)) (begun-holds [] (omega arith))
+loop-holds c =
+    let out = c .before .large-buffer in (
+      sym (c .before .before .part-buffer .ensures),
+      sym (out .ensures),
+      rw (c .start .ensures) (record { begun = begun-holds [] (omega arith); order = omega arith; within = omega arith; room = omega arith }),
+      rw (c .start .ensures) (reached-start (out .result)),
+    )
 
-answer-next-requires : tie.Need-answer-next-requires Inv-loop μ-loop
-answer-next-requires c κs = search needs
+goes-on-requires : tie.Need-goes-on-requires Inv-loop μ-loop
+goes-on-requires c κs = search needs
+
+slice-aggregate-call-once : tie.Need-slice-aggregate-call-once Inv-loop μ-loop
+slice-aggregate-call-once c = search needs
+
+slice-aggregate-call-once-2 : tie.Need-slice-aggregate-call-once-2 Inv-loop μ-loop
+slice-aggregate-call-once-2 c = search needs
+
+call-once-requires : tie.Need-call-once-requires Inv-loop μ-loop
+call-once-requires c κs = let at = c .before .before .before .before .before .loop in ready-same (at .inv .0) (at .inv .2)
 
 sub-turns : tie.Need-sub-turns Inv-loop μ-loop
 sub-turns c = search needs
@@ -32,30 +55,13 @@ loop-less : tie.Need-loop-less Inv-loop μ-loop
 loop-less c = search needs
 
 loop-again : tie.Need-loop-again Inv-loop μ-loop
-loop-again c = search needs
+loop-again c =
+    let at = c .before .before .before .before .before .before .before .before .loop in
+    let r = c .before .before .call-once .ensures in
+    (search needs, search needs, ready-same (search needs) (r .0), reached-next (at .inv .3) (r .1))
 
-slice-aggregate-finish : tie.Need-slice-aggregate-finish Inv-loop μ-loop
-slice-aggregate-finish c = search needs
-
-finish-requires : tie.Need-finish-requires Inv-loop μ-loop
-finish-requires c κs = search needs
-
-array-share-prefix-out : tie.Need-array-share-prefix-out Inv-loop μ-loop
-array-share-prefix-out c =
-    let f = c .before .finish in
-    let all = ap length (f .ensures .1) in
-    let n = f .ensures .0 in
-    omega (arith, simp length-append at all)
-
-slice-aggregate-write-all : tie.Need-slice-aggregate-write-all Inv-loop μ-loop
-slice-aggregate-write-all c =
-    let f = c .before .before .finish in
-    let all = ap length (f .ensures .1) in
-    let n = f .ensures .0 in
-    sym (length-take-le (f .result) (f .last .1 .0) (omega (arith, simp length-append at all)))
-
-write-all-requires : tie.Need-write-all-requires Inv-loop μ-loop
-write-all-requires c κs = search needs
+say-requires : tie.Need-say-requires Inv-loop μ-loop
+say-requires c κs = search needs
 
 returns : tie.Need-returns Inv-loop μ-loop
 returns c = search needs
@@ -66,15 +72,16 @@ main-spec =
     (tie.spec
     Inv-loop
     μ-loop
-    none-requires
+    part-buffer-requires
+    large-buffer-requires
+    start-requires
     loop-holds
-    answer-next-requires
+    goes-on-requires
+    slice-aggregate-call-once
+    slice-aggregate-call-once-2
+    call-once-requires
     sub-turns
     loop-less
     loop-again
-    slice-aggregate-finish
-    finish-requires
-    array-share-prefix-out
-    slice-aggregate-write-all
-    write-all-requires
+    say-requires
     returns)
