@@ -1,11 +1,42 @@
 /*
  * Stonefruitle: whether two moving convex outlines meet, and why.
  *
+ * A RETURN OF 0 MEANS "NOT REFUSED", AND A CONTACT IS NOT REFUSED. A caller who
+ * goes on 0 drives into the other carriage. Look at the answer line's second
+ * byte, its characters 2 and 3:
+ *
+ *     "00" or "01"   clear: the move may be let go
+ *     "02"           contact: the move is held
+ *     "ff"           refused: nothing is known of the move, so it is held
+ *
+ * Go on clear and on nothing else: a return of 0, line[2] == '0', and line[3]
+ * == '0' or '1'. examples/c/answer.c does so. docs/FORMAT.md has every byte of
+ * the lines. stonefruitle_read_line, stonefruitle_read_move and
+ * stonefruitle_test_outline do not look whether outlines meet at all.
+ *
  * Link with libstonefruitle_c.a (`rt staticlib stonefruitle_c` writes it to
  * target/staticlib). Each function is proved to meet its contract, which says
  * of every input what is returned and what stands in each lent buffer
- * afterwards (crates/stonefruitle_c/src/lib.rt). None keeps anything between
- * calls, allocates or takes a lock, so calls may run side by side.
+ * afterwards (crates/stonefruitle_c/src/lib.rt).
+ *
+ * What a call costs, as tests/costs measures it:
+ *
+ * Stack    under 5 KB. Measured by painting a stack before the call: 4.1 KB for
+ *          stonefruitle_read_move, 3.9 for stonefruitle_write_move, 3.1 for the
+ *          two that answer, less for the others.
+ * Time     bounded, whatever is handed in. A longer line or list is refused
+ *          unread. Each outline's 16 corners at most are tried against its 16
+ *          edges. At most 32 sides are worked, each with 32 products for the
+ *          corners and two for the velocities. For a contact, 2 times 16
+ *          corners at most are tried against 16 edges, and 256 pairs of edges
+ *          in 4 directions; two fractions are brought to lowest terms by at
+ *          most 43 divisions each. The slowest of 5802 moves of twice 16
+ *          corners took 12 microseconds on one core of an Intel Xeon server:
+ *          a figure of one machine, not a promise.
+ * Memory   nothing is allocated and nothing is kept between calls: there are no
+ *          globals and no locks, so calls are safe from several threads, each
+ *          with its own buffers.
+ * Needed   memcpy and memset; nothing else of the C library, and no system call.
  *
  * Buffers. A buffer is handed in as a pointer and a length in elements. The
  * pointer is not null and is aligned for its elements, also where the length
@@ -18,7 +49,7 @@
  * outside are refused; no input of any kind is undefined.
  *
  * Lines. A move line or an answer line is hexadecimal text, closed by byte 0a
- * where it is written and handed in without it.
+ * where it is written and handed in without it (docs/FORMAT.md).
  *
  * Each function returns the number of its refusal, 0 for none. Of several that
  * apply the first in this list is returned.
@@ -29,7 +60,7 @@
 #include <stddef.h>
 #include <stdint.h>
 
-#define STONEFRUITLE_NONE 0   /* no refusal */
+#define STONEFRUITLE_NONE 0   /* no refusal; a contact is none */
 #define STONEFRUITLE_ROOM 1   /* too few bytes lent for the line */
 #define STONEFRUITLE_DIGITS 2 /* a line that is empty, odd in length, over 282 digits, or with another character than 0-9 and a-f */
 #define STONEFRUITLE_KIND 3   /* a line whose first byte is not 01 */
@@ -65,8 +96,8 @@ extern "C" {
  * its length. Refusals: 1 where out_length is under 45, then 2 to 9.
  *
  * Without a refusal, the first *written bytes of out are the answer line with
- * its 0a: 81 00 k, 81 01 i j or 81 02 n d n d b s p q in hexadecimal, so 7, 9
- * or 45 bytes. With refusal r from 2 to 9 they are the 7 bytes of 81 ff r with
+ * its 0a: 81 00 k or 81 01 i j for clear, 81 02 n d n d b s p q for contact, in
+ * hexadecimal, so 7, 9 or 45 bytes. With refusal r from 2 to 9 they are the 7 bytes of 81 ff r with
  * 0a. With refusal 1 nothing is written to out and *written is 0. The bytes of
  * out after the line stay as they were.
  */
@@ -111,7 +142,8 @@ uint8_t stonefruitle_write_move(const int64_t *a, size_t a_length,
 /*
  * Whether a line is a move.
  *
- * Takes the line without its 0a and writes nothing. Refusals: 2 to 9.
+ * Takes the line without its 0a and writes nothing. Refusals: 2 to 9. 0 says
+ * nothing of whether the outlines meet.
  */
 uint8_t stonefruitle_read_line(const uint8_t *line, size_t line_length);
 

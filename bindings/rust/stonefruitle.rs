@@ -1,5 +1,9 @@
 //! The checker for Rust programs: safe functions over the static library.
 //!
+//! **`Ok` and "no refusal" mean "not refused", and a contact is not refused.** A caller who goes on `Ok` drives into the
+//! other carriage. Let a move go where `Answer::is_clear` says so, and on nothing else: `examples/rust/answer.rs` does.
+//! `docs/FORMAT.md` has every byte of the lines; the head of `include/stonefruitle.h` says what a call costs.
+//!
 //! Standard library only. From the top of the repository:
 //!
 //! ```text
@@ -191,7 +195,7 @@ pub enum Showing {
     Edges(u8, u8),
 }
 
-/// The answer to a move that is not refused.
+/// The answer to a move that is not refused: clear, or contact.
 #[derive(Clone, Copy, Debug, PartialEq, Eq)]
 pub enum Answer {
     /// This side keeps the outlines apart for the whole of the move.
@@ -209,6 +213,14 @@ pub enum Answer {
 }
 
 impl Answer {
+    /// Whether the outlines stay apart for the whole of the move, so that it may be let go.
+    pub fn is_clear(&self) -> bool {
+        match self {
+            Answer::ClearByOne(_) | Answer::ClearByTwo(_, _) => true,
+            Answer::Contact { .. } => false,
+        }
+    }
+
     /// The answer or the refusal that an answer line says; none where the line, with or without its 0a, is no answer line.
     pub fn of_line(line: &[u8]) -> Option<Result<Answer, Refusal>> {
         let frame = bytes_of(line.strip_suffix(b"\n").unwrap_or(line))?;
@@ -247,6 +259,7 @@ impl Answer {
 /// What a call that writes to a lent buffer answers.
 #[derive(Clone, Copy, Debug, PartialEq, Eq)]
 pub struct Written {
+    /// None for clear and for contact alike.
     pub refusal: Option<Refusal>,
     /// How many bytes it wrote at the start of the buffer. The others are as they were.
     pub bytes: usize,
@@ -276,7 +289,7 @@ pub fn write_move(m: &Move) -> Result<Vec<u8>, Refusal> {
     }
 }
 
-/// Whether a line, which stands without its 0a, is a move.
+/// Whether a line, which stands without its 0a, is a move. `Ok` says nothing of whether the outlines meet.
 pub fn read_line(line: &[u8]) -> Result<(), Refusal> {
     // The library reads `line.len()` bytes at the pointer and keeps nothing.
     accepted(unsafe { stonefruitle_read_line(line.as_ptr(), line.len()) })

@@ -246,6 +246,43 @@ fn twelve_cases_from_lines() {
 }
 
 #[test]
+fn clear_cases_may_go() {
+    for case in cases() {
+        let clear = answer_lists(&case.asked()).is_ok_and(|answer| answer.is_clear());
+        assert_eq!(
+            clear,
+            ["P3", "P4", "P6"].contains(&case.name),
+            "{}",
+            case.name
+        );
+    }
+}
+
+#[test]
+fn calls_side_by_side() {
+    let threads: Vec<_> = (0..8)
+        .map(|_| {
+            std::thread::spawn(|| {
+                for (case, line) in cases()
+                    .iter()
+                    .cycle()
+                    .zip(move_lines().iter().cycle())
+                    .take(12_000)
+                {
+                    assert_eq!(answer_lists(&case.asked()), case.answer, "{}", case.name);
+                    assert_eq!(answer_line(line), case.answer, "{}", case.name);
+                }
+            })
+        })
+        .collect();
+    for thread in threads {
+        thread
+            .join()
+            .expect("every thread gets the answers of its own moves");
+    }
+}
+
+#[test]
 fn outlines_of_the_cases() {
     for case in cases() {
         assert_eq!(

@@ -1,4 +1,5 @@
-/* Asks the checker about one move, the paper's P1, and says what the answer means. */
+/* Asks the checker about one move, the paper's P1, says what the answer means, and holds the move unless it is clear. */
+#include <stdbool.h>
 #include <stdio.h>
 #include <stonefruitle.h>
 
@@ -9,6 +10,12 @@ static unsigned long number(const uint8_t *text, int count)
     for (int i = 0; i < count; i++)
         n = 16 * n + (text[i] <= '9' ? text[i] - '0' : text[i] - 'a' + 10);
     return n;
+}
+
+/* Whether the move may be let go. A contact is not refused, so that a return of 0 alone is no leave to go. */
+static bool is_clear(uint8_t refusal, const uint8_t *line)
+{
+    return refusal == STONEFRUITLE_NONE && number(line + 2, 2) <= 1;
 }
 
 int main(void)
@@ -28,7 +35,7 @@ int main(void)
     fwrite(line, 1, length, stdout);
 
     if (refusal != STONEFRUITLE_NONE) {
-        printf("refused: %d\n", refusal);
+        printf("refused: %d\nthe move is held\n", refusal);
         return 1;
     }
     switch (number(line + 2, 2)) {
@@ -57,5 +64,6 @@ int main(void)
             printf("shown by edge %lu of A and edge %lu of B\n", p, q);
         }
     }
+    printf("the move is %s\n", is_clear(refusal, line) ? "let go" : "held");
     return 0;
 }

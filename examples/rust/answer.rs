@@ -1,4 +1,4 @@
-//! Asks the checker about one move, the paper's P1, and says what the answer means.
+//! Asks the checker about one move, the paper's P1, says what the answer means, and holds the move unless it is clear.
 
 use stonefruitle::{answer_lists, answer_lists_into, Answer, Move, Showing, ANSWER_ROOM};
 
@@ -18,7 +18,8 @@ fn main() {
     print!("{}", String::from_utf8_lossy(&line[..written.bytes]));
 
     // The same answer, taken apart.
-    match answer_lists(&p1) {
+    let answer = answer_lists(&p1);
+    match answer {
         Err(refusal) => println!("refused: {} ({refusal})", refusal.number()),
         Ok(Answer::ClearByOne(k)) => println!("clear: side {k} keeps the outlines apart"),
         Ok(Answer::ClearByTwo(i, j)) => {
@@ -41,4 +42,8 @@ fn main() {
             }
         }
     }
+
+    // A contact is not refused, so that `Ok` alone is no leave to go.
+    let clear = answer.is_ok_and(|answer| answer.is_clear());
+    println!("the move is {}", if clear { "let go" } else { "held" });
 }
