@@ -14,7 +14,7 @@ use Rattle.frame.specs.Reading.{answerOfLine}
 use Rattle.frame.specs.Over.{over}
 use Rattle.lines.specs.Taking.{lineOf, lineAt, nextAt}
 use Rattle.lines.specs.Output.{answerTo}
-use Rattle.lines.specs.Chunks.{finished, unfinished}
+use Rattle.lines.specs.Lines.{finished, unfinished}
 use Rattle.lines.specs.Stream.{answersTo, kept}
 use Rattle.lines.specs.Begun.{begunWith, begunBytes, Holds}
 use Rattle.lines.specs.declared.Fed.{Fed}

@@ -15,11 +15,10 @@ use Rattle.verdict.specs.Answer.{answerUnless}
 use Rattle.verdict.specs.declared.Answer.the-variants.{Refused}
 use Rattle.frame.specs.AnswerFrame.{answerLine}
 use Rattle.frame.specs.Reading.{refusalOfLine, answerOfLine}
-use Rattle.lines.specs.Lines.{linesFrom}
-use Rattle.lines.specs.Chunks.{finished, unfinished}
+use Rattle.lines.specs.Lines.{finished, unfinished, lastLine, linesOf}
 use Rattle.lines.specs.Output.{answerTo, output}
 use Rattle.lines.specs.Stream.{answersTo, lastAnswer, kept}
-use Rattle.lines.proofs.Chunks.{finished-append, linesFrom-finished}
+use Rattle.lines.proofs.Chunks.{finished-append}
 
 -- ---- flatMap goes through a join
 flatMap-append : (f : List ℕ → List ℕ) (x y : List (List ℕ)) → flatMap f (x ++ y) ≡ flatMap f x ++ flatMap f y
@@ -31,22 +30,14 @@ pub answers-append : (u x y : List ℕ) → answersTo u (x ++ y) ≡ answersTo u
 unfolding answersTo
 answers-append u x y = ap (flatMap (λ l. answerTo l)) (finished-append u x y) ∙ flatMap-append (λ l. answerTo l) (finished u x) (finished (unfinished u x) y)
 
--- the answer to what stands begun when the input ends
-last-answer : (u : List ℕ) → flatMap (λ l. answerTo l) (linesFrom u []) ≡ lastAnswer u
-unfolding linesFrom lastAnswer flatMap
-last-answer u = go (eqb (length u) 0)
-  where
-    go : (t : Bool) → flatMap (λ l. answerTo l) (cond t [] (u ∷ [])) ≡ cond t [] (answerTo u)
-    go true = refl
-    go false = append-nil (answerTo u)
-
 -- the whole output: the lines that are closed, and the one that is not
 pub output-is : (s : List ℕ) → output s ≡ answersTo [] s ++ lastAnswer (unfinished [] s)
-unfolding output answersTo
-output-is s =
-    ap (flatMap (λ l. answerTo l)) (linesFrom-finished [] s)
-    ∙ flatMap-append (λ l. answerTo l) (finished [] s) (linesFrom (unfinished [] s) [])
-    ∙ ap (λ t. flatMap (λ l. answerTo l) (finished [] s) ++ t) (last-answer (unfinished [] s))
+unfolding output answersTo lastAnswer linesOf flatMap
+output-is s = flatMap-append (λ l. answerTo l) (finished [] s) (lastLine (unfinished [] s)) ∙ ap (λ t. flatMap (λ l. answerTo l) (finished [] s) ++ t) (last (eqb (length (unfinished [] s)) 0))
+  where
+    last : (t : Bool) → flatMap (λ l. answerTo l) (cond t [] (unfinished [] s ∷ [])) ≡ cond t [] (answerTo (unfinished [] s))
+    last true = refl
+    last false = append-nil (answerTo (unfinished [] s))
 
 -- ---- a line of more than 282 bytes is refused
 and-never : (s t : Bool) → (s && (t && false)) ≡ false

@@ -1,8 +1,6 @@
--- The four examples hold by computation: what the program prints for each input, and that each input is the line of its case's move.
+-- The twelve cases from line to line hold by computation: what the program prints for each input, and that each input is the line of its case's move.
 use mathlib.Core.Path.{_≡_, refl}
-use mathlib.Core.List.{[], _∷_, map, flatMap}
-use Prim.Native.Nat.{ℕ}
-use lib.ListN.{getD}
+use mathlib.Core.List.{map, flatMap}
 use Rattle.whole.specs.Lowest.{lowest, every}
 use Rattle.whole.specs.Best.{best}
 use Rattle.whole.specs.Time.{before, same, reduced}
@@ -22,15 +20,14 @@ use Rattle.frame.specs.Hex.{character, digit, hex, unhex, digits}
 use Rattle.frame.specs.MoveFrame.{moveFrame, moveLine, cornersIn, moveOfFrame}
 use Rattle.frame.specs.AnswerFrame.{answerFrame, answerLine}
 use Rattle.frame.specs.Reading.{refusalOfFrame, refusalOfLine, moveOfLine, answerOfLine}
-use Rattle.lines.specs.Lines.{linesFrom}
+use Rattle.lines.specs.Lines.{finished, unfinished, linesOf}
 use Rattle.lines.specs.Output.{output}
 use Rattle.lines.specs.Examples.{Example, text, examples}
 
 pub printed : map (λ (e : Example). output (e .given)) examples ≡ map (λ (e : Example). e .printed) examples
-unfolding lowest every best before same reduced cross dot low high shares inside meet left badEdge isSound firstThatApplies counted placed sideOf windowAhead windowStill window span spansTo spans cornerInside edgesMeet meetingPair showingOf showing bearing verdictFrom verdict refusal answerUnless character digit hex unhex digits cornersIn moveOfFrame answerFrame answerLine refusalOfFrame refusalOfLine moveOfLine answerOfLine linesFrom output text flatMap
+unfolding lowest every best before same reduced cross dot low high shares inside meet left badEdge isSound firstThatApplies counted placed sideOf windowAhead windowStill window span spansTo spans cornerInside edgesMeet meetingPair showingOf showing bearing verdictFrom verdict refusal answerUnless character digit hex unhex digits cornersIn moveOfFrame answerFrame answerLine refusalOfFrame refusalOfLine moveOfLine answerOfLine finished unfinished linesOf output text flatMap
 printed = refl
 
--- the cases P1, P3, P6 and P12 stand at 0, 2, 5 and 11 of the table
-pub given : map (λ (e : Example). e .given) examples ≡ map (λ (i : ℕ). getD (map (λ (c : Case). moveLine (c .asked)) cases) i []) (0 ∷ 2 ∷ 5 ∷ 11 ∷ [])
+pub given : map (λ (e : Example). e .given) examples ≡ map (λ (c : Case). moveLine (c .asked)) cases
 unfolding character hex moveFrame moveLine text flatMap
 given = refl

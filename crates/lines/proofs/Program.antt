@@ -2,7 +2,7 @@
 use mathlib.Core.Path.{_≡_, sym, _∙_, ap}
 use mathlib.Core.List.{List, [], _++_}
 use Prim.Native.Nat.{ℕ}
-use Rattle.lines.specs.Chunks.{unfinished}
+use Rattle.lines.specs.Lines.{unfinished}
 use Rattle.lines.specs.Output.{output}
 use Rattle.lines.specs.Stream.{answersTo, lastAnswer, kept}
 use Rattle.lines.proofs.Chunks.{unfinished-append}

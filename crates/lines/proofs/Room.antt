@@ -19,7 +19,7 @@ use Rattle.frame.proofs.HexText.{hex-length}
 use Rattle.frame.proofs.FrameMove.{moveFrame-length}
 use Rattle.frame.proofs.RoundTrip.{written-read}
 use Rattle.frame.proofs.Says.{length-answer}
-use Rattle.lines.specs.Chunks.{finished}
+use Rattle.lines.specs.Lines.{finished}
 use Rattle.lines.specs.Output.{answerTo}
 use Rattle.lines.specs.Stream.{answersTo, lastAnswer}
 

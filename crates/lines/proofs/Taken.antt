@@ -9,19 +9,22 @@ use lib.Dec.{ltb, eqb, eqb·suc-zero}
 use lib.ListN.{length, drop, length-append, length-drop, drop-of-length-le}
 use lib.Seq.{drop-drop}
 use borrow.Author.Tests.{ltb-true, ltb-false, lt-ltb, le-ltb}
-use Rattle.lines.specs.Lines.{linesFrom}
 use Rattle.lines.specs.Taking.{lineOf, lineAt, isAt, nextAt}
-use Rattle.lines.specs.Chunks.{finished, unfinished}
+use Rattle.lines.specs.Lines.{finished, unfinished, lastLine, linesOf}
+
+-- the lines of u, where the bytes b have come before
+abbrev linesFrom : List ℕ → List ℕ → List (List ℕ)
+linesFrom b u = finished b u ++ lastLine (unfinished b u)
 
 -- a line begun with b goes on to the first 0a of u
 lines-first : (b u : List ℕ) → 0 < length b + length u → linesFrom b u ≡ (b ++ lineOf u) ∷ linesFrom [] (drop (suc (length (lineOf u))) u)
-unfolding linesFrom lineOf
+unfolding finished unfinished lineOf
 lines-first [] [] h = absurd (omega arith)
 lines-first (a ∷ b) [] h = ap (λ t. cond t [] ((a ∷ b) ∷ [])) (eqb·suc-zero (length b)) ∙ ap (λ l. l ∷ []) (sym (append-nil (a ∷ b)))
 lines-first b (c ∷ s) h = go (eqb c 10) (lines-first (b ++ (c ∷ [])) s (omega (arith, length-append b (c ∷ []))))
   where
     go : (t : Bool) → linesFrom (b ++ (c ∷ [])) s ≡ ((b ++ (c ∷ [])) ++ lineOf s) ∷ linesFrom [] (drop (suc (length (lineOf s))) s) →
-        cond t (b ∷ linesFrom [] s) (linesFrom (b ++ (c ∷ [])) s) ≡ (b ++ cond t [] (c ∷ lineOf s)) ∷ linesFrom [] (drop (length (cond t [] (c ∷ lineOf s))) s)
+        cond t (b ∷ finished [] s) (finished (b ++ (c ∷ [])) s) ++ lastLine (cond t (unfinished [] s) (unfinished (b ++ (c ∷ [])) s)) ≡ (b ++ cond t [] (c ∷ lineOf s)) ∷ linesFrom [] (drop (length (cond t [] (c ∷ lineOf s))) s)
     go true e = ap (λ l. l ∷ linesFrom [] s) (sym (append-nil b))
     go false e = e ∙ ap (λ l. l ∷ linesFrom [] (drop (suc (length (lineOf s))) s)) (append-assoc b (c ∷ []) (lineOf s))
 
@@ -40,16 +43,16 @@ pub next-none : (s : List ℕ) (at : ℕ) → length s ≤ at → nextAt s at �
 next-none s at h = simp (le-ltb at (length s) h)
 
 -- what is left from a position on: a line, and what is left after it
-pub lines-taken : (s : List ℕ) (at : ℕ) → linesFrom [] (drop at s) ≡ cond (isAt s at) (lineAt s at ∷ linesFrom [] (drop (nextAt s at) s)) []
-unfolding linesFrom
+pub lines-taken : (s : List ℕ) (at : ℕ) → linesOf (drop at s) ≡ cond (isAt s at) (lineAt s at ∷ linesOf (drop (nextAt s at) s)) []
+unfolding linesOf finished unfinished
 lines-taken s at = go (ltb at (length s)) refl
   where
-    go : (t : Bool) → ltb at (length s) ≡ t → linesFrom [] (drop at s) ≡ cond t (lineAt s at ∷ linesFrom [] (drop (cond t (min (at + length (lineAt s at) + 1) (length s)) at) s)) []
+    go : (t : Bool) → ltb at (length s) ≡ t → linesOf (drop at s) ≡ cond t (lineAt s at ∷ linesOf (drop (cond t (min (at + length (lineAt s at) + 1) (length s)) at) s)) []
     go true e =
         let h = ltb-true at (length s) e in
         let past : at + suc (length (lineAt s at)) ≡ at + length (lineAt s at) + 1 = omega arith in
-        lines-first [] (drop at s) (omega (arith, length-drop at s)) ∙ ap (λ l. lineAt s at ∷ linesFrom [] l) (drop-drop (suc (length (lineAt s at))) at s ∙ ap (λ n. drop n s) past ∙ sym (drop-min (at + length (lineAt s at) + 1) s))
-    go false e = ap (linesFrom []) (drop-of-length-le s (ltb-false at (length s) e))
+        lines-first [] (drop at s) (omega (arith, length-drop at s)) ∙ ap (λ l. lineAt s at ∷ linesOf l) (drop-drop (suc (length (lineAt s at))) at s ∙ ap (λ n. drop n s) past ∙ sym (drop-min (at + length (lineAt s at) + 1) s))
+    go false e = ap linesOf (drop-of-length-le s (ltb-false at (length s) e))
 
 -- ---- a line has no 0a, so it closes no line
 pub line-open : (b u : List ℕ) → (finished b (lineOf u) ≡ []) × (unfinished b (lineOf u) ≡ b ++ lineOf u)

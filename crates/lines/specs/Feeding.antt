@@ -5,7 +5,7 @@
 use Prim.Native.Nat.{ℕ, _+_, _*_}
 use mathlib.Core.List.{List}
 use lib.ListN.{length}
-use Rattle.lines.specs.Chunks.{unfinished}
+use Rattle.lines.specs.Lines.{unfinished}
 use Rattle.lines.specs.Stream.{answersTo, kept}
 use Rattle.lines.specs.Begun.{begunWith}
 use Rattle.lines.specs.declared.Fed.{Fed}

@@ -7,7 +7,7 @@ use mathlib.Core.List.{List, [], flatMap}
 use Prim.Native.Nat.{ℕ}
 use lib.Dec.{eqb}
 use lib.ListN.{length, take}
-use Rattle.lines.specs.Chunks.{finished}
+use Rattle.lines.specs.Lines.{finished}
 use Rattle.lines.specs.Output.{answerTo}
 
 unfoldable pub answersTo : List ℕ → List ℕ → List ℕ

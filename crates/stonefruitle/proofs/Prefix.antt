@@ -7,7 +7,7 @@ use native.Mathlib.Omega.{arith}
 use lib.Dec.{eqb}
 use lib.ListN.{length, take, drop, take-append-drop, length-append}
 use borrow.Author.Tests.{eqb-true, eqb-false}
-use Rattle.lines.specs.Chunks.{finished, unfinished}
+use Rattle.lines.specs.Lines.{finished, unfinished}
 use Rattle.lines.specs.Output.{output}
 use Rattle.lines.specs.Stream.{answersTo, lastAnswer, kept}
 use Rattle.lines.proofs.Program.{parts-answers, parts-begun, whole-output}

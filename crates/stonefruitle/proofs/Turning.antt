@@ -9,7 +9,7 @@ use lib.ListN.{length, take, drop, length-take, length-drop, length-append}
 use lib.Seq.{take-append-seam, drop-drop}
 use Rattle.frame.specs.Over.{over}
 use Rattle.lines.specs.Begun.{begunWith, begunBytes, Holds}
-use Rattle.lines.specs.Chunks.{unfinished}
+use Rattle.lines.specs.Lines.{unfinished}
 use Rattle.lines.specs.Stream.{answersTo, lastAnswer, kept}
 use Rattle.lines.specs.Feeding.{answersRoom, fed}
 use Rattle.lines.specs.declared.Begun.{Begun}

@@ -14,7 +14,7 @@ use lib.IntN.{ℤ, pos}
 use lib.Signed.{ltZ}
 use lib.ListN.{length, take, drop}
 use Rattle.lines.specs.Begun.{begunWith, begunBytes, Holds}
-use Rattle.lines.specs.Chunks.{unfinished}
+use Rattle.lines.specs.Lines.{unfinished}
 use Rattle.lines.specs.Stream.{answersTo, lastAnswer, kept}
 use Rattle.lines.specs.Feeding.{answersRoom}
 use Rattle.stonefruitle.specs.declared.Came.{Came}
