@@ -1,42 +1,15 @@
 // The program: lines on standard input, the answer line of each on standard output. `main` reads, asks what to do next, and writes;
-// what is written for what was read, and when it stops, is decided in `decisions`.
+// what is written for what was read, and when it stops, is decided in the crate `turns`.
 ghost use mathlib.Core.Path.{_≡_};
 ghost use Prim.Native.Nat.{_-_, _≤_};
 ghost use lib.IntN.{pos};
 ghost use lib.ListN.{length};
-ghost use Rattle.stonefruitle.specs.Turns.{Moves, Ready, doing};
-ghost use Rattle.stonefruitle.specs.History.{Follows};
-use lines::Begun;
-
-mod decisions; // what to do next
-
-// What a call of read or write brought: so many bytes moved, none, an interruption, or a failure.
-pub enum Came {
-    Bytes(usize),
-    Nothing,
-    Interruption,
-    Failure,
-}
-
-// What is to be done next: read on; write what stands to be written, and then read on or, where the input has ended, stop. Or stop:
-// all is written, a read failed, a write failed, a write took nothing.
-pub enum Next {
-    Read,
-    Write,
-    WriteLast,
-    Done,
-    NotRead,
-    NotWritten,
-    NotTaken,
-}
-
-// Between two calls: what is to be done next, the line that stands begun, and from where to where the output stands to be written.
-pub struct Turn {
-    pub next: Next,
-    pub begun: Begun,
-    pub from: usize,
-    pub to: usize,
-}
+ghost use Rattle.turns.specs.Doing.{Moves};
+ghost use Rattle.turns.specs.Turns.{Ready, doing};
+ghost use Rattle.turns.specs.History.{Follows};
+use turns::Came;
+use turns::Next;
+use turns::Turn;
 
 // Room for a part of the input. The answers to a part of this length fit the output of 65,536 bytes, whatever its lines are.
 fn part_buffer() -> [u8; 8192]
@@ -52,7 +25,7 @@ fn read_from(input: i32, part: &mut [u8]) -> Came
 {
     let got = libc::read(input, part);
     let count = io::count(got, part);
-    decisions::came(got, count, os::errno() == libc::EINTR)
+    turns::came_back(got, count, os::errno() == libc::EINTR)
 }
 
 // Writes once.
@@ -62,7 +35,7 @@ fn write_to(output: i32, part: &[u8]) -> Came
 {
     let got = libc::write(output, part);
     let count = io::count(got, part);
-    decisions::came(got, count, os::errno() == libc::EINTR)
+    turns::came_back(got, count, os::errno() == libc::EINTR)
 }
 
 // Writes what stands to be written, once.
@@ -84,15 +57,15 @@ fn call_once(t: Turn, part: &mut [u8], out: &mut [u8]) -> Turn
     match next {
         Next::Read => {
             let c = read_from(0, part);
-            decisions::after_read(t, c, part, out)
+            turns::after_read(t, c, part, out)
         }
         Next::Write => {
             let c = write_once(t, out);
-            decisions::after_write(t, c)
+            turns::after_write(t, c)
         }
         Next::WriteLast => {
             let c = write_once(t, out);
-            decisions::after_write(t, c)
+            turns::after_write(t, c)
         }
         Next::Done => t,
         Next::NotRead => t,
@@ -123,9 +96,9 @@ fn say(t: Turn) {
 fn main() {
     let mut part = part_buffer();
     let mut out = io::large_buffer();
-    let mut t = decisions::start();
+    let mut t = turns::start();
     let mut turns = u64::MAX;
-    while turns > 0 && decisions::goes_on(t) {
+    while turns > 0 && turns::goes_on(t) {
         t = call_once(t, &mut part, &mut out);
         turns -= 1;
     }

@@ -1,9 +1,10 @@
 -- The event of a turn is what its call brought, with what then stands in the buffer.
-use mathlib.Core.Path.{ap}
+use mathlib.Core.Path.{ap, refl}
 use native.Mathlib.Omega.{arith}
-use Rattle.stonefruitle.specs.Turns.{doing}
-use Rattle.stonefruitle.specs.History.{callOf}
-use Rattle.stonefruitle.proofs.Turning.{ready-same, follows-read, follows-write, follows-none}
+use lib.ListN.{length}
+use Rattle.turns.specs.Turns.{doing}
+use Rattle.turns.specs.History.{callOf}
+use Rattle.turns.proofs.Turning.{ready-same, after-read-follows, after-write-follows, follows-none}
 use borrow.Author.Needs.{needs}
 use Rattle.stonefruitle.proofs.call_once.Statement.{statement}
 use Rattle.stonefruitle.proofs.call_once.Tie as tie
@@ -56,8 +57,9 @@ same-length-2 c = search needs
 returns : tie.Need-returns
 returns c =
     let s = c .before .before .before .before .before .before .before .before .before .before .before .before .before in
-    let r = c .before .before .after-read in
-    (ready-same (omega arith) (r .ensures .0), follows-read (doing (s .args .t) (s .args .out .now)) (c .before .before .before .before .before .before .before .read-from .result) (c .before .before .before .before .before .before .before .read-from .last .1 .0) (c .before .before .before .before .before .before .before .before .before .enum-told .given .1) (r .ensures .1))
+    let read = c .before .before .before .before .before .before .before .read-from in
+    let r = c .before .before .after-read .ensures in
+    after-read-follows (s .args .t) (read .result) (read .last .1 .0) (s .args .out .now) (ready-same (omega arith) (s .pre)) (c .before .before .before .before .before .before .before .before .before .enum-told .given .1) (r .0) (r .1) refl
 
 same-length-3 : tie.Need-same-length-3
 same-length-3 c = search needs
@@ -65,8 +67,7 @@ same-length-3 c = search needs
 returns-2 : tie.Need-returns-2
 returns-2 c =
     let s = c .before .before .before .before .before .before .before in
-    let w = c .after-write in
-    (w .ensures .ready _ _ (s .pre), follows-write (doing (s .args .t) (s .args .out .now)) (c .before .write-once .result) (ap callOf (c .before .before .before .enum-told2 .given .1)) (w .ensures .is (s .args .out .now) (s .pre .within)))
+    after-write-follows (s .args .t) (c .before .write-once .result) (length (s .args .part .now)) (s .args .out .now) (s .pre) (ap callOf (c .before .before .before .enum-told2 .given .1)) (c .before .write-once .ensures) (c .after-write .ensures)
 
 same-length-4 : tie.Need-same-length-4
 same-length-4 c = search needs
@@ -74,8 +75,7 @@ same-length-4 c = search needs
 returns-3 : tie.Need-returns-3
 returns-3 c =
     let s = c .before .before .before .before .before .before .before in
-    let w = c .after-write2 in
-    (w .ensures .ready _ _ (s .pre), follows-write (doing (s .args .t) (s .args .out .now)) (c .before .write-once2 .result) (ap callOf (c .before .before .before .enum-told3 .given .1)) (w .ensures .is (s .args .out .now) (s .pre .within)))
+    after-write-follows (s .args .t) (c .before .write-once2 .result) (length (s .args .part .now)) (s .args .out .now) (s .pre) (ap callOf (c .before .before .before .enum-told3 .given .1)) (c .before .write-once2 .ensures) (c .after-write2 .ensures)
 
 returns-4 : tie.Need-returns-4
 returns-4 c = let s = c .before .before .before .before in (s .pre, follows-none (doing (s .args .t) (s .args .out .now)) (ap callOf (c .enum-told4 .given .1)))

@@ -4,10 +4,10 @@ use mathlib.Core.List.{[]}
 use native.Mathlib.Omega.{arith}
 use lib.ListN.{length}
 use borrow.Author.Needs.{needs}
-use Rattle.stonefruitle.specs.Turns.{Ready, doing}
-use Rattle.stonefruitle.specs.History.{Reached}
-use Rattle.stonefruitle.proofs.Prefix.{reached-start, reached-next}
-use Rattle.stonefruitle.proofs.Turning.{ready-same}
+use Rattle.turns.specs.Turns.{Ready, doing}
+use Rattle.turns.specs.History.{Reached}
+use Rattle.turns.proofs.Prefix.{reached-start, reached-next}
+use Rattle.turns.proofs.Turning.{ready-same}
 use Rattle.lines.proofs.Beginnings.{begun-holds}
 use Rattle.stonefruitle.proofs.main.Statement.{statement}
 use Rattle.stonefruitle.proofs.main.Tie as tie

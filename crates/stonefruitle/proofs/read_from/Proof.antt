@@ -1,5 +1,5 @@
 -- So many bytes as were counted, and no more than were lent.
-use Rattle.stonefruitle.proofs.Turning.{moves-more}
+use Rattle.turns.proofs.Turning.{moves-more}
 use borrow.Author.Needs.{needs}
 use Rattle.stonefruitle.proofs.read_from.Statement.{statement}
 use Rattle.stonefruitle.proofs.read_from.Tie as tie
@@ -13,16 +13,16 @@ count-requires c κs = search needs
 errno-requires : tie.Need-errno-requires
 errno-requires c κs = search needs
 
-came-requires : tie.Need-came-requires
-came-requires c κs = search needs
+came-back-requires : tie.Need-came-back-requires
+came-back-requires c κs = search needs
 
 same-length : tie.Need-same-length
 same-length c = search needs
 
 returns : tie.Need-returns
-returns c = moves-more (c .came .result) (c .before .before .count .ensures .0 .0) (c .came .ensures .1)
+returns c = moves-more (c .came-back .result) (c .before .before .count .ensures .0 .0) (c .came-back .ensures .1)
 
 pub read-from-spec : {M : Type 1} → statement M
 read-from-spec =
     tie.close
-    (tie.spec read-requires count-requires errno-requires came-requires same-length returns)
+    (tie.spec read-requires count-requires errno-requires came-back-requires same-length returns)

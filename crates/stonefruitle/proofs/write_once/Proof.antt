@@ -1,7 +1,7 @@
 -- No more bytes are taken than stand to be written.
 use mathlib.Core.Path.{subst}
-use Rattle.stonefruitle.specs.Turns.{Moves}
-use Rattle.stonefruitle.proofs.Turning.{length-between}
+use Rattle.turns.specs.Doing.{Moves}
+use Rattle.turns.proofs.Turning.{length-between}
 use borrow.Author.Needs.{needs}
 use Rattle.stonefruitle.proofs.write_once.Statement.{statement}
 use Rattle.stonefruitle.proofs.write_once.Tie as tie

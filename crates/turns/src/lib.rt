@@ -4,14 +4,41 @@ ghost use mathlib.Core.Bool.{cond};
 ghost use Prim.Native.Nat.{_-_, _≤_};
 ghost use lib.Dec.{eqb};
 ghost use lib.ListN.{length};
-ghost use Rattle.stonefruitle.specs.Turns.{cameBack, Moves, goesOn, beginning, doing, Ready, afterRead, afterLast, AfterWrite};
-use super::Came;
-use super::Next;
-use super::Turn;
+ghost use Rattle.turns.specs.Doing.{cameBack, Moves, goesOn, afterLast};
+ghost use Rattle.turns.specs.Turns.{beginning, Ready, turnAfterRead, outAfterRead, turnAfterWrite};
+use lines::Begun;
 use lines::stream;
 
+// What a call of read or write brought: so many bytes moved, none, an interruption, or a failure.
+pub enum Came {
+    Bytes(usize),
+    Nothing,
+    Interruption,
+    Failure,
+}
+
+// What is to be done next: read on; write what stands to be written, and then read on or, where the input has ended, stop. Or stop:
+// all is written, a read failed, a write failed, a write took nothing.
+pub enum Next {
+    Read,
+    Write,
+    WriteLast,
+    Done,
+    NotRead,
+    NotWritten,
+    NotTaken,
+}
+
+// Between two calls: what is to be done next, the line that stands begun, and from where to where the output stands to be written.
+pub struct Turn {
+    pub next: Next,
+    pub begun: Begun,
+    pub from: usize,
+    pub to: usize,
+}
+
 // What a call brought that answered `got`, which stands for `count` bytes.
-pub fn came(got: isize, count: usize, interrupted: bool) -> Came
+pub fn came_back(got: isize, count: usize, interrupted: bool) -> Came
     ensures { λ r. ⌜ (r ≡ cameBack got count interrupted) × Moves r count ⌝ }
 {
     if 0 < count {
@@ -80,7 +107,7 @@ fn stopped(t: Turn, next: Next) -> Turn
 // After a read that brought c into `part`: its bytes are answered, the last line where the input has ended. A line begun is not answered where the read failed.
 pub fn after_read(t: Turn, c: Came, part: &[u8], out: &mut [u8]) -> Turn
     requires { ⌜ Ready t (length (now part)) (now out) × Moves c (length (now part)) ⌝ }
-    ensures { λ r. ⌜ Ready r (length (now (part .entry))) (now (out .exit)) × (doing r (now (out .exit)) ≡ afterRead (doing t (now (out .entry))) c (now (part .entry))) ⌝ }
+    ensures { λ r. ⌜ (r ≡ turnAfterRead t c (now (part .entry))) × (now (out .exit) ≡ outAfterRead t c (now (part .entry)) (now (out .entry))) ⌝ }
 {
     let begun = t.begun;
     match c {
@@ -127,7 +154,7 @@ fn after_last(next: Next) -> Next
 // After a write that brought c: the bytes that it took no longer stand to be written.
 pub fn after_write(t: Turn, c: Came) -> Turn
     requires { ⌜ (t .from ≤ t .to) × Moves c (t .to - t .from) ⌝ }
-    ensures { λ r. ⌜ AfterWrite t c r ⌝ }
+    ensures { λ r. ⌜ r ≡ turnAfterWrite t c ⌝ }
 {
     let begun = t.begun;
     let next = t.next;

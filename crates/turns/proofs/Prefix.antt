@@ -11,12 +11,13 @@ use Rattle.lines.specs.Lines.{finished, unfinished}
 use Rattle.lines.specs.Output.{output}
 use Rattle.lines.specs.Stream.{answersTo, lastAnswer, kept}
 use Rattle.lines.proofs.Program.{parts-answers, parts-begun, whole-output}
-use Rattle.stonefruitle.specs.declared.Came.{Came}
-use Rattle.stonefruitle.specs.declared.Came.the-variants.{Bytes, Nothing, Interruption, Failure}
-use Rattle.stonefruitle.specs.declared.Next.{Next}
-use Rattle.stonefruitle.specs.declared.Next.the-variants.{Read, Write, WriteLast, Done, NotRead, NotWritten, NotTaken}
-use Rattle.stonefruitle.specs.Turns.{Doing, goesOn, beginning, doing}
-use Rattle.stonefruitle.specs.History.{Beginning, Event, History, Follows, Reached, start, step, then, goOn, history}
+use Rattle.turns.specs.declared.Came.{Came}
+use Rattle.turns.specs.declared.Came.the-variants.{Bytes, Nothing, Interruption, Failure}
+use Rattle.turns.specs.declared.Next.{Next}
+use Rattle.turns.specs.declared.Next.the-variants.{Read, Write, WriteLast, Done, NotRead, NotWritten, NotTaken}
+use Rattle.turns.specs.Doing.{Doing, goesOn}
+use Rattle.turns.specs.Turns.{beginning, doing}
+use Rattle.turns.specs.History.{Beginning, Event, History, Follows, Reached, start, step, then, goOn, history}
 
 -- ---- what is known of a run, by what is to be done next
 -- the answers to the lines closed so far are handed on or stand to be written, and the line begun is kept

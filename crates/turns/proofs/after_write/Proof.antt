@@ -1,14 +1,14 @@
 -- Each case of what a write brought is the definition's.
-use mathlib.Core.Path.{refl, subst}
-use Prim.Native.Nat.{_-_}
+use mathlib.Core.Path.{refl, subst, ap, _∙_}
+use mathlib.Core.Bool.{cond}
+use Prim.Native.Nat.{_+_, _-_}
 use native.Mathlib.Omega.{arith}
-use Rattle.stonefruitle.specs.declared.Came.the-variants.{Nothing, Failure}
-use Rattle.stonefruitle.specs.declared.Next.the-variants.{NotWritten, NotTaken}
-use Rattle.stonefruitle.specs.Turns.{Moves}
-use Rattle.stonefruitle.proofs.Turning.{write-bytes, write-stopped}
+use lib.Dec.{eqb}
+use Rattle.turns.specs.Doing.{Moves}
+use Rattle.turns.proofs.Turning.{same-turn}
 use borrow.Author.Needs.{needs}
-use Rattle.stonefruitle.proofs.decisions.after_write.Statement.{statement}
-use Rattle.stonefruitle.proofs.decisions.after_write.Tie as tie
+use Rattle.turns.proofs.after_write.Statement.{statement}
+use Rattle.turns.proofs.after_write.Tie as tie
 
 enum-known-c : tie.Need-enum-known-c
 enum-known-c c = search needs
@@ -42,19 +42,18 @@ stopped-requires-2 c κs = search needs
 
 returns : tie.Need-returns
 returns c =
-    let s = c .before .before .before .before .before .before .before in
-    let is = c .before .before .before .before .c .given .1 in
-    let m = subst (λ x. Moves x (s .args .t .to - s .args .t .from)) is (s .pre .1) in
-    rw is (write-bytes (s .args .t) (c .before .before .before .before .c .given .0 .0) (c .unless-none .result) (c .before .after-last .result) (omega arith) (c .before .after-last .ensures) (c .unless-none .ensures))
+    let t = c .before .before .before .before .before .before .before .args .t in
+    let n = c .before .before .before .before .c .given .0 .0 in
+    rw (c .before .before .before .before .c .given .1) (same-turn (c .unless-none .ensures ∙ ap (λ x. cond (eqb (t .to - (t .from + n)) 0) x (t .next)) (c .before .after-last .ensures)) refl refl refl)
 
 returns-2 : tie.Need-returns-2
-returns-2 c = rw (c .before .enum-told .given .1, c .stopped .ensures) (write-stopped (c .before .before .before .before .args .t) Nothing NotTaken (λ d. refl))
+returns-2 c = rw (c .before .enum-told .given .1) (c .stopped .ensures)
 
 returns-3 : tie.Need-returns-3
-returns-3 c = rw (c .enum-told2 .given .1) (record { ready = λ n out r. r; is = λ out k. refl })
+returns-3 c = search needs
 
 returns-4 : tie.Need-returns-4
-returns-4 c = rw (c .before .enum-told3 .given .1, c .stopped2 .ensures) (write-stopped (c .before .before .before .before .args .t) Failure NotWritten (λ d. refl))
+returns-4 c = rw (c .before .enum-told3 .given .1) (c .stopped2 .ensures)
 
 pub after-write-spec : {M : Type 1} → statement M
 after-write-spec =

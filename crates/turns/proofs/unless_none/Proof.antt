@@ -1,7 +1,7 @@
 -- Each answer is that of the test that leads to it.
 use borrow.Author.Tests.{eq-eqb, ne-eqb}
-use Rattle.stonefruitle.proofs.decisions.unless_none.Statement.{statement}
-use Rattle.stonefruitle.proofs.decisions.unless_none.Tie as tie
+use Rattle.turns.proofs.unless_none.Statement.{statement}
+use Rattle.turns.proofs.unless_none.Tie as tie
 
 returns : tie.Need-returns
 returns c = simp (eq-eqb (c .before .args .n) 0 (c .if1 .taken))

@@ -7,10 +7,10 @@ use lib.IntN.{pos}
 use lib.Signed.{ltZ}
 use mir.Facts.{toZ-ofZ}
 use borrow.Author.Tests.{lt-ltb, le-ltb}
-use Rattle.stonefruitle.proofs.decisions.came.Statement.{statement}
-use Rattle.stonefruitle.proofs.decisions.came.Tie as tie
-use Rattle.stonefruitle.proofs.decisions.came.Reads as reads
-use Rattle.stonefruitle.proofs.decisions.came.Lts as lts
+use Rattle.turns.proofs.came_back.Statement.{statement}
+use Rattle.turns.proofs.came_back.Tie as tie
+use Rattle.turns.proofs.came_back.Reads as reads
+use Rattle.turns.proofs.came_back.Lts as lts
 
 returns : tie.Need-returns
 returns c = rw (lt-ltb 0 (c .before .args .count) (c .if1 .taken)) (refl, omega arith)
@@ -32,5 +32,5 @@ returns-4 c =
     let not-below : ltZ (c .before .before .args .got) (pos 0) ≡ false = ap (λ z. ltZ z (pos 0)) (sym (toZ-ofZ (c .before .before .fits .got))) ∙ c .if2 .left in
     rw (none-moved (c .before), not-below) (refl, tt)
 
-pub came-spec : {M : Type 1} → statement M
-came-spec = tie.close (tie.spec returns returns-2 returns-3 returns-4)
+pub came-back-spec : {M : Type 1} → statement M
+came-back-spec = tie.close (tie.spec returns returns-2 returns-3 returns-4)

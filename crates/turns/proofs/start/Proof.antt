@@ -1,9 +1,9 @@
 -- Nothing stands begun, and nothing to be written.
 use mathlib.Core.Path.{ap}
-use Rattle.stonefruitle.specs.declared.Next.the-variants.{Read}
+use Rattle.turns.specs.declared.Next.the-variants.{Read}
 use borrow.Author.Needs.{needs}
-use Rattle.stonefruitle.proofs.decisions.start.Statement.{statement}
-use Rattle.stonefruitle.proofs.decisions.start.Tie as tie
+use Rattle.turns.proofs.start.Statement.{statement}
+use Rattle.turns.proofs.start.Tie as tie
 
 none-requires : tie.Need-none-requires
 none-requires c κs = search needs

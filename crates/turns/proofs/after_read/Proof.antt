@@ -1,13 +1,16 @@
 -- Each case of what a read brought is the definition's.
-use mathlib.Core.Path.{sym, subst}
+use mathlib.Core.Path.{refl, sym, subst, ap, _∙_}
+use mathlib.Core.Bool.{cond}
 use native.Mathlib.Omega.{arith}
+use lib.Dec.{eqb}
 use lib.ListN.{length, length-take}
 use lib.Seq.{length-take-le}
-use Rattle.stonefruitle.specs.Turns.{Moves}
-use Rattle.stonefruitle.proofs.Turning.{read-bytes, read-end, read-again, read-failed}
+use Rattle.turns.specs.declared.Next.the-variants.{Read, Write, WriteLast, Done}
+use Rattle.turns.specs.Doing.{Moves}
+use Rattle.turns.proofs.Turning.{same-turn}
 use borrow.Author.Needs.{needs}
-use Rattle.stonefruitle.proofs.decisions.after_read.Statement.{statement}
-use Rattle.stonefruitle.proofs.decisions.after_read.Tie as tie
+use Rattle.turns.proofs.after_read.Statement.{statement}
+use Rattle.turns.proofs.after_read.Tie as tie
 
 enum-known-c : tie.Need-enum-known-c
 enum-known-c c = search needs
@@ -47,24 +50,22 @@ same-length c = search needs
 
 returns : tie.Need-returns
 returns c =
-    let s = c .before .before .before .before .before .before .before .before .before .before .before .before .before in
     let f = c .before .before .before .before .feed in
-    rw (c .before .before .before .before .before .before .before .before .c .given .1) (read-bytes (s .args .t) (s .args .part .now) (s .args .out .now) (s .pre .0) (c .before .before .before .before .before .before .before .before .c .given .0 .0) (c .unless-none .result) (f .result) (f .last .1 .1 .0) (f .ensures .0) (f .ensures .1) (c .unless-none .ensures))
+    rw (c .before .before .before .before .before .before .before .before .c .given .1) (same-turn (c .unless-none .ensures ∙ ap (λ r. cond (eqb (r .written) 0) Read Write) (f .ensures .0)) (ap (λ r. r .begun) (f .ensures .0)) refl (ap (λ r. r .written) (f .ensures .0)), f .ensures .1)
 
 same-length-2 : tie.Need-same-length-2
 same-length-2 c = search needs
 
 returns-2 : tie.Need-returns-2
 returns-2 c =
-    let s = c .before .before .before .before .before .before .before .before .before .before .before in
     let f = c .before .before .before .before .finish in
-    rw (c .before .before .before .before .before .before .enum-told .given .1) (read-end (s .args .t) (s .args .part .now) (s .args .out .now) (s .pre .0) (c .before .unless-none2 .result) (c .none .result) (f .result) (f .last .1 .0) (f .ensures .0) (f .ensures .1) (c .before .unless-none2 .ensures) (c .none .ensures))
+    rw (c .before .before .before .before .before .before .enum-told .given .1) (same-turn (c .before .unless-none2 .ensures ∙ ap (λ n. cond (eqb n 0) Done WriteLast) (f .ensures .0)) (c .none .ensures) refl (f .ensures .0), f .ensures .1)
 
 returns-3 : tie.Need-returns-3
-returns-3 c = let s = c .before .before .before .before .before in rw (c .enum-told2 .given .1) (read-again (s .args .t) (s .args .part .now) (s .args .out .now) (s .pre .0))
+returns-3 c = search needs
 
 returns-4 : tie.Need-returns-4
-returns-4 c = let s = c .before .before .before .before .before .before in rw (c .before .enum-told3 .given .1, c .stopped .ensures) (read-failed (s .args .t) (s .args .part .now) (s .args .out .now) (s .pre .0))
+returns-4 c = rw (c .before .enum-told3 .given .1) (c .stopped .ensures, refl)
 
 pub after-read-spec : {M : Type 1} → statement M
 after-read-spec =

@@ -1,27 +1,23 @@
--- What the program does between two calls of read or write: what follows from what a call brought.
+-- What a run of the program is doing between two calls of read or write, and what follows from what a call brought.
 --   Doing                      what is to be done next, what is kept of the line begun, and the bytes that stand to be written
 --   cameBack got n again       what a call brought that answered `got`, which stands for n bytes, and was interrupted where `again` says so
+--   Moves c m                  c brought at most m bytes
 --   afterRead d c s            after a read that brought c, where s then stands in the buffer
 --   afterWrite d c             after a write that brought c
---   doing t out                the turn t with the output out
---   Ready t n out              the turn t can be gone on with: its line begun is held, what stands to be written lies in out, and out has room for the answers to n bytes
-use mathlib.Core.Path.{_≡_}
+--   goesOn n                   whether there is a call to be made
 use mathlib.Core.Bool.{Bool, true, false, cond}
 use mathlib.Core.List.{List, []}
-use Prim.Native.Nat.{ℕ, _-_, _≤_}
+use Prim.Native.Nat.{ℕ, _≤_}
 use lib.Dec.{ltb, eqb}
 use lib.IntN.{ℤ, pos}
 use lib.Signed.{ltZ}
 use lib.ListN.{length, take, drop}
-use Rattle.lines.specs.Begun.{begunWith, begunBytes, Holds}
 use Rattle.lines.specs.Lines.{unfinished}
 use Rattle.lines.specs.Stream.{answersTo, lastAnswer, kept}
-use Rattle.lines.specs.Feeding.{answersRoom}
-use Rattle.stonefruitle.specs.declared.Came.{Came}
-use Rattle.stonefruitle.specs.declared.Came.the-variants.{Bytes, Nothing, Interruption, Failure}
-use Rattle.stonefruitle.specs.declared.Next.{Next}
-use Rattle.stonefruitle.specs.declared.Next.the-variants.{Read, Write, WriteLast, Done, NotRead, NotWritten, NotTaken}
-use Rattle.stonefruitle.specs.declared.Turn.{Turn}
+use Rattle.turns.specs.declared.Came.{Came}
+use Rattle.turns.specs.declared.Came.the-variants.{Bytes, Nothing, Interruption, Failure}
+use Rattle.turns.specs.declared.Next.{Next}
+use Rattle.turns.specs.declared.Next.the-variants.{Read, Write, WriteLast, Done, NotRead, NotWritten, NotTaken}
 
 pub record Doing : Type 0 where
   pub next : Next
@@ -32,7 +28,6 @@ pub record Doing : Type 0 where
 abbrev pub cameBack : ℤ → ℕ → Bool → Came
 cameBack got n again = cond (ltb 0 n) (Bytes n) (cond (ltZ got (pos 0)) (cond again Interruption Failure) Nothing)
 
--- at most m bytes
 abbrev pub Moves : Came → ℕ → Type 0
 Moves (Bytes n) m = n ≤ m
 Moves Nothing m = Unit {0}
@@ -87,22 +82,3 @@ goesOn Done = false
 goesOn NotRead = false
 goesOn NotWritten = false
 goesOn NotTaken = false
-
--- ---- as the program holds it
-abbrev pub doing : Turn → List ℕ → Doing
-doing t out = record { next = t .next; begun = begunBytes (t .begun); standing = take (t .to - t .from) (drop (t .from) out) }
-
--- before the first call
-abbrev pub beginning : Turn
-beginning = record { next = Read; begun = begunWith []; «from» = 0; to = 0 }
-
-pub record Ready (t : Turn) (n : ℕ) (out : List ℕ) : Type 0 where
-  pub begun : Holds (t .begun)
-  pub order : t .from ≤ t .to
-  pub within : t .to ≤ length out
-  pub room : answersRoom n ≤ length out
-
--- r follows from t after a write that brought c, whatever the output in which its bytes lie
-pub record AfterWrite (t : Turn) (c : Came) (r : Turn) : Type 0 where
-  pub ready : (n : ℕ) (out : List ℕ) → Ready t n out → Ready r n out
-  pub is : (out : List ℕ) → t .to ≤ length out → doing r out ≡ afterWrite (doing t out) c

@@ -12,11 +12,11 @@ use mathlib.Core.Bool.{Bool, true, false, cond}
 use mathlib.Core.List.{List, [], _∷_, _++_}
 use Prim.Native.Nat.{ℕ}
 use lib.ListN.{take}
-use Rattle.stonefruitle.specs.Turns.{Doing, afterRead, afterWrite}
-use Rattle.stonefruitle.specs.declared.Came.{Came}
-use Rattle.stonefruitle.specs.declared.Came.the-variants.{Bytes, Nothing, Interruption, Failure}
-use Rattle.stonefruitle.specs.declared.Next.{Next}
-use Rattle.stonefruitle.specs.declared.Next.the-variants.{Read, Write, WriteLast, Done, NotRead, NotWritten, NotTaken}
+use Rattle.turns.specs.Doing.{Doing, afterRead, afterWrite}
+use Rattle.turns.specs.declared.Came.{Came}
+use Rattle.turns.specs.declared.Came.the-variants.{Bytes, Nothing, Interruption, Failure}
+use Rattle.turns.specs.declared.Next.{Next}
+use Rattle.turns.specs.declared.Next.the-variants.{Read, Write, WriteLast, Done, NotRead, NotWritten, NotTaken}
 
 pub record Event : Type 0 where
   pub came : Came
