@@ -11,5 +11,4 @@ pub mod Answering
 pub mod Pushing
 pub mod Storing
 pub mod Says
-pub mod PromisedLine
 pub mod Determined

@@ -3,16 +3,19 @@ use mathlib.Core.Path.{_≡_, refl}
 use mathlib.Core.List.{map, flatMap}
 use Rattle.whole.specs.Lowest.{lowest, every}
 use Rattle.whole.specs.Best.{best}
+use Rattle.whole.specs.Table.{table}
 use Rattle.whole.specs.Time.{before, same, reduced}
+use Rattle.span.specs.Window.{windowAhead, windowStill, window}
+use Rattle.span.specs.Outcome.{outcome}
 use Rattle.plane.specs.Point.{cross, dot}
 use Rattle.plane.specs.Interval.{low, high, shares}
 use Rattle.plane.specs.Inside.{inside, meet}
 use Rattle.outline.specs.Sound.{left, badEdge, isSound}
 use Rattle.outline.specs.Refusal.{firstThatApplies, counted, placed}
 use Rattle.verdict.specs.Sides.{sideOf}
-use Rattle.verdict.specs.Span.{windowAhead, windowStill, window, span, spansTo, spans}
+use Rattle.verdict.specs.Span.{span, spans}
 use Rattle.verdict.specs.Showing.{cornerInside, edgesMeet, meetingPair, showingOf, showing}
-use Rattle.verdict.specs.Verdict.{bearing, verdictFrom, verdict}
+use Rattle.verdict.specs.Verdict.{verdict}
 use Rattle.verdict.specs.Refusal.{refusal}
 use Rattle.verdict.specs.Answer.{answerUnless}
 use Rattle.verdict.specs.Cases.{Case, cases}
@@ -25,7 +28,7 @@ use Rattle.lines.specs.Output.{output}
 use Rattle.lines.specs.Examples.{Example, text, examples}
 
 pub printed : map (λ (e : Example). output (e .given)) examples ≡ map (λ (e : Example). e .printed) examples
-unfolding lowest every best before same reduced cross dot low high shares inside meet left badEdge isSound firstThatApplies counted placed sideOf windowAhead windowStill window span spansTo spans cornerInside edgesMeet meetingPair showingOf showing bearing verdictFrom verdict refusal answerUnless character digit hex unhex digits cornersIn moveOfFrame answerFrame answerLine refusalOfFrame refusalOfLine moveOfLine answerOfLine finished unfinished linesOf output text flatMap
+unfolding lowest every best before same reduced cross dot low high shares inside meet left badEdge isSound firstThatApplies counted placed sideOf windowAhead windowStill window span table spans cornerInside edgesMeet meetingPair showingOf showing outcome verdict refusal answerUnless character digit hex unhex digits cornersIn moveOfFrame answerFrame answerLine refusalOfFrame refusalOfLine moveOfLine answerOfLine finished unfinished linesOf output text flatMap
 printed = refl
 
 pub given : map (λ (e : Example). e .given) examples ≡ map (λ (c : Case). moveLine (c .asked)) cases

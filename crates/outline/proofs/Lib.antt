@@ -1,6 +1,5 @@
 pub mod Soundness
 pub mod WideOutline
-pub mod Placing
 pub mod Reasons
 pub mod Ranges
 pub mod Pairs

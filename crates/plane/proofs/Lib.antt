@@ -14,6 +14,7 @@ pub mod Segments
 pub mod Exit
 pub mod Rim
 pub mod Shown
+pub mod Placing
 pub mod Touch
 pub mod Prefixes
 pub mod Sizes

@@ -1,14 +1,17 @@
 -- The sides and the spans of a move that is fit: a side reaches at most twice as far as corners do, so projections and speeds are small, and each span is well made and has short times.
 use mathlib.Core.Path.{_≡_, refl, sym, subst, ap₂}
 use mathlib.Core.Bool.{Bool, true, false, cond}
-use Prim.Native.Nat.{ℕ, _+_, _-_, _≤_, _<_}
+use Prim.Native.Nat.{ℕ, _+_, _-_, _^_, _≤_, _<_}
 use native.Mathlib.Omega.{arith}
 use lib.Dec.{ltb}
-use lib.IntN.{natAbs}
+use lib.IntN.{ℤ, natAbs, _-ℤ_}
 use lib.ListN.{length}
 use borrow.Author.Tests.{ltb-true, ltb-false}
 use Rattle.whole.specs.Within.{Within}
 use Rattle.whole.proofs.Bound.{bounds, within}
+use Rattle.span.proofs.Windows.{ShortSpan, window-short}
+use Rattle.span.proofs.Casts.{limit-short}
+use Rattle.span.proofs.Outcomes.{Made}
 use Rattle.plane.specs.Point.{step, side, dot}
 use Rattle.plane.specs.Near.{Near}
 use Rattle.plane.specs.Edges.{corner, next, edge}
@@ -20,11 +23,9 @@ use Rattle.outline.specs.declared.Outline.{Outline}
 use Rattle.outline.proofs.Places.{held-length, held-corner, held-edge}
 use Rattle.verdict.specs.HeldMove.{Fit, moveHeld}
 use Rattle.verdict.specs.Sides.{sideCount, sideOf}
-use Rattle.verdict.specs.Span.{spans}
-use Rattle.verdict.specs.Verdict.{spanAt}
+use Rattle.verdict.specs.Span.{span, spans}
 use Rattle.verdict.specs.declared.HeldMove.{HeldMove}
-use Rattle.verdict.proofs.Windows.{Good}
-use Rattle.verdict.proofs.SideTimes.{spans-good}
+use Rattle.verdict.proofs.SideSpans.{spans-length, spans-at, spans-good}
 
 -- ---- an outline that is held
 step-near : (p q : Corner) → Near 10000 p → Near 10000 q → Near 20000 (side (step p q))
@@ -42,6 +43,9 @@ module _ (o : Outline) (h : Held o) where
   held-side : (i : ℕ) → i < o .count → Near 20000 (side (edge (cornersHeld o) i))
   held-side i l = subst (λ e. Near 20000 (side e)) (sym (held-edge o (h .kept) i l)) (step-near _ _ (h .near i) (h .near (next (o .count) i)))
 
+difference-short : (x y : ℤ) → Within 400000000 x → Within 400000000 y → natAbs (x -ℤ y) < 2 ^ 32
+difference-short x y h k = let b : Within 800000000 (x -ℤ y) = within (search bounds depth 12) tt in omega (arith, b .le)
+
 -- ---- a move that is fit
 module _ (m : HeldMove) (f : Fit m) where
   pub sideCount-is : sideCount (moveHeld m) ≡ m .a .count + m .b .count
@@ -53,8 +57,8 @@ module _ (m : HeldMove) (f : Fit m) where
   some-corners-b : 1 ≤ length (cornersHeld (m .b))
   some-corners-b = let s = f .some-b in omega (arith, held-length (m .b) (f .held-b .kept))
 
-  pub spans-fit : (k : ℕ) → k < sideCount (moveHeld m) → Good (natAbs (m .limit)) (spanAt (spans (moveHeld m)) k)
-  spans-fit = spans-good (moveHeld m) some-corners-a some-corners-b
+  pub spans-some : 1 ≤ length (spans (moveHeld m))
+  spans-some = let s = some-corners-a in omega (arith, spans-length (moveHeld m))
 
   module _ (k : ℕ) (h : k < sideCount (moveHeld m)) where
     abbrev D : Corner
@@ -85,3 +89,16 @@ module _ (m : HeldMove) (f : Fit m) where
 
     pub speed-b-within : Within 400000000 (dot D (m .vb))
     speed-b-within = dot-within D (m .vb) side-near (f .near-vb)
+
+    span-short : ShortSpan (span (moveHeld m) k)
+    unfolding span
+    span-short = window-short _ _ _ (natAbs (m .limit)) (difference-short _ _ low-a-within high-b-within) (difference-short _ _ high-a-within low-b-within) (difference-short _ _ speed-b-within speed-a-within) (limit-short (m .limit) (f .from-zero, f .to-limit))
+
+  pub spans-made : Made (natAbs (m .limit)) (spans (moveHeld m))
+  spans-made =
+      record {
+        good = spans-good (moveHeld m) some-corners-a some-corners-b;
+        short = λ k h.
+            let i : k < sideCount (moveHeld m) = omega (arith, spans-length (moveHeld m)) in
+            rw (spans-at (moveHeld m) k i) (span-short k i);
+      }

@@ -4,19 +4,22 @@ use mathlib.Core.List.{map}
 use Rattle.whole.specs.Lowest.{lowest, every}
 use Rattle.whole.specs.Best.{best}
 use Rattle.whole.specs.Time.{before, same, reduced}
+use Rattle.whole.specs.Table.{table}
+use Rattle.span.specs.Window.{windowAhead, windowStill, window}
+use Rattle.span.specs.Outcome.{outcome}
 use Rattle.plane.specs.Point.{cross, dot}
 use Rattle.plane.specs.Interval.{low, high, shares}
 use Rattle.plane.specs.Inside.{inside, meet}
 use Rattle.outline.specs.Sound.{left, badEdge, isSound}
 use Rattle.outline.specs.Refusal.{firstThatApplies, counted, placed}
 use Rattle.verdict.specs.Sides.{sideOf}
-use Rattle.verdict.specs.Span.{windowAhead, windowStill, window, span, spansTo, spans}
+use Rattle.verdict.specs.Span.{span, spans}
 use Rattle.verdict.specs.Showing.{cornerInside, edgesMeet, meetingPair, showingOf, showing}
-use Rattle.verdict.specs.Verdict.{bearing, verdictFrom, verdict}
+use Rattle.verdict.specs.Verdict.{verdict}
 use Rattle.verdict.specs.Refusal.{refusal}
 use Rattle.verdict.specs.Answer.{answerUnless, answer}
 use Rattle.verdict.specs.Cases.{Case, cases}
 
 pub worked : map (λ (c : Case). answer (c .asked)) cases ≡ map (λ (c : Case). c .answered) cases
-unfolding lowest every best before same reduced cross dot low high shares inside meet left badEdge isSound firstThatApplies counted placed sideOf windowAhead windowStill window span spansTo spans cornerInside edgesMeet meetingPair showingOf showing bearing verdictFrom verdict refusal answerUnless answer
+unfolding lowest every best before same reduced cross dot low high shares inside meet left badEdge isSound firstThatApplies counted placed sideOf windowAhead windowStill window span table spans cornerInside edgesMeet meetingPair showingOf showing outcome verdict refusal answerUnless answer
 worked = refl

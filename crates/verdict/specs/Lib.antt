@@ -2,13 +2,9 @@ pub mod Move
 pub mod HeldMove
 pub mod Sides
 pub mod Span
-pub mod InSpan
-pub mod Standing
 pub mod Showing
 pub mod Verdict
-pub mod Lead
 pub mod Refusal
 pub mod Answer
 pub mod Readings
 pub mod Cases
-pub mod Promise

@@ -1,20 +1,21 @@
 // The verdict on a move of two outlines, with its evidence.
 ghost use mathlib.Core.Path.{_≡_};
-ghost use mathlib.Core.Bool.{cond};
-ghost use Rattle.whole.specs.Time.{Short, before};
+ghost use Rattle.span.specs.Lead.{Comparable};
+ghost use Rattle.span.specs.declared.Outcome.the-variants.{FromTo};
 ghost use Rattle.verdict.specs.HeldMove.{Fit, moveHeld};
-ghost use Rattle.verdict.specs.Verdict.{verdict};
+ghost use Rattle.verdict.specs.Verdict.{bearing, verdictFrom, verdict};
 ghost use Rattle.verdict.specs.Answer.{answerUnless, answerOfLists};
 ghost use Rattle.verdict.specs.Readings.{Readable};
-ghost use Rattle.verdict.specs.Lead.{lead, Concludes};
 
 pub mod lists; // moves handed in as lists of numbers
 pub mod refusals; // why a move is turned away
-mod spans; // the span of each side
+mod spans; // the span of each side, and what all have in common
 mod shows; // what shows a common point
 
 use outline::Outline;
 use plane::Corner;
+use span::Lead;
+use span::Outcome;
 use whole::Time;
 
 // A move as it is held: both outlines with their velocities, and the time limit.
@@ -30,12 +31,6 @@ pub struct HeldMove {
 pub struct Reading {
     pub refusal: u8,
     pub held: HeldMove,
-}
-
-// The times from 0 to the limit at which a side's two intervals share a value: none, or those from begin to end.
-pub enum Span {
-    Empty,
-    Between(Time, Time),
 }
 
 // The lowest side whose begin is first; none where first is zero.
@@ -67,93 +62,43 @@ pub enum Answer {
     Refused(u8),
 }
 
-// The greatest begin, or the least end, so far, and the lowest side that has it.
-pub struct Lead {
-    pub at: Time,
-    pub side: usize,
+// The side that bears: the lowest whose begin is first.
+fn bears(first: Lead) -> Bearing
+    ensures { λ r. ⌜ r ≡ bearing first ⌝ }
+{
+    let at = first.at;
+    if at.n == 0 {
+        return Bearing::None;
+    }
+    Bearing::Side(first.place)
 }
 
-// The lead with the begin t of side k: it changes where t is greater.
-fn later(l: Lead, t: Time, k: usize) -> Lead
-    requires { ⌜ Short (l .at) × Short t ⌝ }
-    ensures { λ r. ⌜ r ≡ cond (before (l .at) t) (lead t k) l ⌝ }
+// The answer where the spans of all sides share the times from first to last.
+fn contact(m: HeldMove, first: Lead, last: Lead) -> Answer
+    requires { ⌜ Fit m × Comparable (first .at) ⌝ }
+    ensures { λ r. ⌜ r ≡ verdictFrom (moveHeld m) (FromTo first last) ⌝ }
 {
-    if whole::before(l.at, t) {
-        return Lead { at: t, side: k };
-    }
-    l
-}
-
-// The lead with the end t of side k: it changes where t is less.
-fn sooner(l: Lead, t: Time, k: usize) -> Lead
-    requires { ⌜ Short (l .at) × Short t ⌝ }
-    ensures { λ r. ⌜ r ≡ cond (before t (l .at)) (lead t k) l ⌝ }
-{
-    if whole::before(t, l.at) {
-        return Lead { at: t, side: k };
-    }
-    l
-}
-
-// The answer where no span is empty, from the greatest begin and the least end.
-fn concluded(m: HeldMove, first: Lead, last: Lead) -> Answer
-    requires { ⌜ Fit m × Concludes (moveHeld m) first last ⌝ }
-    ensures { λ r. ⌜ r ≡ verdict (moveHeld m) ⌝ }
-{
-    let f = first.at;
-    let e = last.at;
-    if whole::before(e, f) {
-        return Answer::ClearByTwo(first.side, last.side);
-    }
-    let begin = whole::reduced(f.n, f.d);
-    let end = whole::reduced(e.n, e.d);
-    let showing = shows::showing(m, begin);
-    if begin.n == 0 {
-        return Answer::Contact(Evidence {
-            first: begin,
-            last: end,
-            bearing: Bearing::None,
-            showing,
-        });
-    }
+    let begin = first.at;
+    let end = last.at;
     Answer::Contact(Evidence {
         first: begin,
         last: end,
-        bearing: Bearing::Side(first.side),
-        showing,
+        bearing: bears(first),
+        showing: shows::showing(m, begin),
     })
 }
 
-// The verdict on a move, side by side from 0; it is known at the first empty span.
+// The verdict on a move, from what the spans of its sides have in common.
 pub fn verdict(m: HeldMove) -> Answer
     requires { ⌜ Fit m ⌝ }
     ensures { λ r. ⌜ r ≡ verdict (moveHeld m) ⌝ }
 {
-    let a = m.a;
-    let b = m.b;
-    let n = a.count + b.count;
-    let mut first = Lead {
-        at: Time { n: 0, d: 1 },
-        side: 0,
-    };
-    let mut last = Lead {
-        at: Time {
-            n: m.limit as u64,
-            d: 1,
-        },
-        side: 0,
-    };
-    let mut k: usize = 0;
-    while k < n {
-        let s = spans::span(m, k);
-        let Span::Between(begin, end) = s else {
-            return Answer::ClearByOne(k);
-        };
-        first = later(first, begin, k);
-        last = sooner(last, end, k);
-        k += 1;
+    let o = spans::outcome(m);
+    match o {
+        Outcome::ByOne(k) => Answer::ClearByOne(k),
+        Outcome::ByTwo(i, j) => Answer::ClearByTwo(i, j),
+        Outcome::FromTo(first, last) => contact(m, first, last),
     }
-    concluded(m, first, last)
 }
 
 // The answer to a move that was read: its refusal, or the verdict on it.

@@ -1,15 +1,13 @@
--- Times as fractions: `before` is a strict order on the values of proper times, so the least and the greatest of a list are bounds; `reduced` keeps the value, and each value has one time in lowest terms.
+-- Times as fractions: `before` is a strict order on the values of proper times, so it ranks them; `reduced` keeps the value, and each value has one time in lowest terms.
 use mathlib.Core.Path.{_≡_, refl, sym, _∙_, ap, ap₂}
 use mathlib.Core.Bool.{Bool, true, false}
-use mathlib.Core.List.{List, _∷_}
 use Prim.Native.Nat.{ℕ, _*_, _/_, _^_, _≤_, _<_, _∣_}
 use native.Mathlib.Nat.{mul-le-mul, le-pred-of-lt, mul-le-mul-right, le-of-mul-le-mul-right, le-antisymm, le-of-eq, eq-of-mul-eq-mul-left, eq-of-mul-eq-mul-right, mul-one, mul-div-cancel', div-le-self, dvd-mul-left, dvd-antisymm, pos-of-dvd-of-pos}
 use native.Mathlib.Omega.{arith}
 use borrow.Author.Tests.{ltb-true, ltb-false, le-ltb, eqb-true, eq-eqb}
 use Rattle.whole.specs.declared.Time.{Time}
-use Rattle.whole.specs.Member.{Mem}
-use Rattle.whole.specs.Time.{time, Proper, before, same, greatest, least, gcd, reduced, Reduced, Short}
-use Rattle.whole.proofs.Members.{Ranks, ranks-flip, best-member, best-bound}
+use Rattle.whole.specs.Time.{time, Proper, before, same, gcd, reduced, lowestTerms, Reduced, Short}
+use Rattle.whole.proofs.Members.{Ranks, ranks-flip}
 use Rattle.whole.proofs.Divisors.{gcd-divides-left, gcd-divides-right, gcd-pos, gcd-comm, gcd-scale, coprime-divides}
 
 -- ---- the order
@@ -30,52 +28,21 @@ pub before-step : (s t u : Time) → Proper t → before t s ≡ false → befor
 unfolding before
 before-step s t u p h k = le-ltb (u .n * s .d) (s .n * u .d) (cross-trans (s .n) (s .d) (t .n) (t .d) (u .n) (u .d) p (ltb-false _ _ h) (ltb-false _ _ k))
 
-pub before-trans : (s t u : Time) → Proper s → before s t ≡ true → before t u ≡ true → before s u ≡ true
-before-trans s t u p h k = go (before s u) refl
-  where
-    go : (b : Bool) → before s u ≡ b → b ≡ true
-    go true e = refl
-    go false e = sym (before-step u s t p e (before-asym s t h)) ∙ k
-
 pub before-total : (s t : Time) → before s t ≡ false → before t s ≡ false → same s t ≡ true
 unfolding before same
 before-total s t h k = eq-eqb (s .n * t .d) (t .n * s .d) (omega (arith, ltb-false))
 
--- ---- the least and the greatest of a list
+-- ---- the two ways to rank times
 pub ranks-before : Ranks Proper before
 ranks-before = record { irrefl = λ t p. before-irrefl t; asym = λ s t p q. before-asym s t; step = λ s t u p q r. before-step s t u q }
 
 pub ranks-after : Ranks Proper (λ s t. before t s)
 ranks-after = ranks-flip ranks-before
 
-pub least-member : (t : Time) (l : List Time) → Mem (least (t ∷ l)) (t ∷ l)
-least-member t l = best-member before (time 0 1) t l
-
-pub least-bound : (l : List Time) → ((t : Time) → Mem t l → Proper t) → (t : Time) → Mem t l → before t (least l) ≡ false
-least-bound l = best-bound ranks-before (time 0 1) l
-
-pub greatest-member : (t : Time) (l : List Time) → Mem (greatest (t ∷ l)) (t ∷ l)
-greatest-member t l = best-member (λ s t. before t s) (time 0 1) t l
-
-pub greatest-bound : (l : List Time) → ((t : Time) → Mem t l → Proper t) → (t : Time) → Mem t l → before (greatest l) t ≡ false
-greatest-bound l = best-bound ranks-after (time 0 1) l
-
 -- ---- the same value
 pub same-refl : (t : Time) → same t t ≡ true
 unfolding same
 same-refl t = eq-eqb (t .n * t .d) (t .n * t .d) refl
-
-pub same-sym : (s t : Time) → same s t ≡ true → same t s ≡ true
-unfolding same
-same-sym s t h = eq-eqb (t .n * s .d) (s .n * t .d) (sym (eqb-true (s .n * t .d) (t .n * s .d) h))
-
-pub same-trans : (s t u : Time) → Proper t → same s t ≡ true → same t u ≡ true → same s u ≡ true
-unfolding same
-same-trans s t u p h k =
-    let a = eqb-true (s .n * t .d) (t .n * s .d) h in
-    let b = eqb-true (t .n * u .d) (u .n * t .d) k in
-    eq-eqb (s .n * u .d) (u .n * s .d)
-    (le-antisymm (cross-trans (s .n) (s .d) (t .n) (t .d) (u .n) (u .d) p (le-of-eq a) (le-of-eq b)) (cross-trans (u .n) (u .d) (t .n) (t .d) (s .n) (s .d) p (le-of-eq (sym b)) (le-of-eq (sym a))))
 
 -- ---- lowest terms
 -- n and d, each the common divisor times its quotient
@@ -104,6 +71,31 @@ reduced-bound n d = (div-le-self n (gcd n d), div-le-self d (gcd n d))
 
 pub reduced-short : (n d : ℕ) → Short (time n d) → Short (reduced n d)
 reduced-short n d h = record { n-short = omega (arith, reduced-bound n d); d-short = omega (arith, reduced-bound n d) }
+
+-- `before` cannot tell a time from itself in lowest terms: neither is before the other
+module _ (t : Time) (p : Proper t) where
+  lowestTerms-proper : Proper (lowestTerms t)
+  lowestTerms-proper = reduced-reduced (t .n) (t .d) p .proper
+
+  lowestTerms-le : before t (lowestTerms t) ≡ false
+  unfolding before
+  lowestTerms-le = le-ltb (t .n * lowestTerms t .d) (lowestTerms t .n * t .d) (omega (arith, reduced-same (t .n) (t .d)))
+
+  lowestTerms-ge : before (lowestTerms t) t ≡ false
+  unfolding before
+  lowestTerms-ge = le-ltb (lowestTerms t .n * t .d) (t .n * lowestTerms t .d) (omega (arith, reduced-same (t .n) (t .d)))
+
+  -- a test that is false of either is false of both
+  same-test : (a b : Bool) → (a ≡ false → b ≡ false) → (b ≡ false → a ≡ false) → a ≡ b
+  same-test true true f g = refl
+  same-test false b f g = sym (f refl)
+  same-test true false f g = g refl
+
+  pub lowestTerms-before : (u : Time) → before (lowestTerms t) u ≡ before t u
+  lowestTerms-before u = same-test _ _ (λ e. before-step u (lowestTerms t) t lowestTerms-proper e lowestTerms-le) (λ e. before-step u t (lowestTerms t) p e lowestTerms-ge)
+
+  pub before-lowestTerms : (u : Time) → before u (lowestTerms t) ≡ before u t
+  before-lowestTerms u = same-test _ _ (λ e. before-step t (lowestTerms t) u lowestTerms-proper lowestTerms-ge e) (λ e. before-step (lowestTerms t) t u p lowestTerms-le e)
 
 -- s's d divides t's, where s is in lowest terms and has t's value
 same-divides : (s t : Time) → Reduced s → s .n * t .d ≡ t .n * s .d → s .d ∣ t .d

@@ -73,18 +73,10 @@ lowest-least f n i e = omega (arith, higher)
     higher : ¬ (i < lowest f n)
     higher h = false≢true (sym (lowest-below f n i h) ∙ e)
 
--- ---- some index
 -- ---- every index
 pub every-yes : (f : ℕ → Bool) (n : ℕ) → every f n ≡ true → (i : ℕ) → i < n → f i ≡ true
 unfolding every
 every-yes f n e i h = not-false (f i) (lowest-below (λ i. not (f i)) n i (omega (arith, eqb-true (lowest (λ i. not (f i)) n) n e)))
-
-pub every-no : (f : ℕ → Bool) (n : ℕ) → every f n ≡ false → (i : ℕ) × (i < n) × (f i ≡ false)
-unfolding every
-every-no f n e =
-    let k = lowest (λ i. not (f i)) n in
-    let h : k < n = omega (arith, eqb-false k n e, lowest-bound (λ i. not (f i)) n) in
-    (k, h, not-true (f k) (lowest-yes (λ i. not (f i)) n h))
 
 pub every-true : (f : ℕ → Bool) (n : ℕ) → ((i : ℕ) → i < n → f i ≡ true) → every f n ≡ true
 unfolding every

@@ -1,5 +1,5 @@
 -- Members of a list, by their places, through `map` and `++` and taken all together, and the best member: it is one of them, none is better, and a map that keeps ranks takes it along.
-use mathlib.Core.Path.{_≡_, refl, ap, ap₂, _∙_}
+use mathlib.Core.Path.{_≡_, refl, sym, ap, ap₂, _∙_}
 use mathlib.Core.Bool.{Bool, true, false, cond}
 use mathlib.Core.Logic.{_⊎_, inl, inr, ⊎-elim}
 use mathlib.Core.List.{List, [], _∷_, _++_, map}
@@ -114,6 +114,52 @@ module _ {A : Type 0} {P : A → Type 0} {better : A → A → Bool} (r : Ranks 
   unfolding best
   best-bound none [] all m n = absurd n
   best-bound none (x ∷ l) all m n = from-bound x l all m n
+
+-- ---- where the best stands: it is better than each member before it
+-- the member at i is b, and b is better than those before i
+pub record First {A : Type 0} (better : A → A → Bool) (d b : A) (l : List A) (i : ℕ) : Type 0 where
+  pub below : i < length l
+  pub is : b ≡ getD l i d
+  pub beats : (j : ℕ) → j < i → better b (getD l j d) ≡ true
+
+module _ {A : Type 0} {P : A → Type 0} {better : A → A → Bool} (r : Ranks P better) (d : A) where
+  -- what is better than one that is no worse than z is better than z
+  beats-more : (b y z : A) → P b → P y → P z → better z y ≡ false → better b y ≡ true → better b z ≡ true
+  beats-more b y z p q s h k = go (better b z) refl
+    where
+      go : (t : Bool) → better b z ≡ t → t ≡ true
+      go true e = refl
+      go false e = sym (r .step y z b q s p h e) ∙ k
+
+  -- two members at the front
+  beats-two : (b x y : A) (l : List A) (i : ℕ) → better b x ≡ true → better b y ≡ true → ((j : ℕ) → j < i → better b (getD l j d) ≡ true) → (j : ℕ) → j < suc (suc i) → better b (getD (x ∷ y ∷ l) j d) ≡ true
+  beats-two b x y l i h k m zero u = h
+  beats-two b x y l i h k m (suc zero) u = k
+  beats-two b x y l i h k m (suc (suc j)) u = m j (omega arith)
+
+  first-with : (b x y w : A) (l : List A) (i : ℕ) → P b → P x → P y → Which better x y w → First better d b (w ∷ l) i → (k : ℕ) × First better d b (x ∷ y ∷ l) k
+  first-with b x y w l zero p q s (new e) f = (1, record { below = omega arith; is = f .is; beats = λ j h. let z : j ≡ 0 = omega arith in rw (z, f .is) e })
+  first-with b x y w l zero p q s (old e) f = (0, record { below = omega arith; is = f .is; beats = λ j h. absurd (omega arith) })
+  first-with b x y w l (suc i) p q s (new e) f =
+      let k = f .beats 0 (omega arith) in
+      (suc (suc i), record { below = omega (arith, f .below); is = f .is; beats = beats-two b x y l i (beats-more b y x p s q (r .asym y x s q e) k) k (λ j h. f .beats (suc j) (omega arith)) })
+  first-with b x y w l (suc i) p q s (old e) f =
+      let k = f .beats 0 (omega arith) in
+      (suc (suc i), record { below = omega (arith, f .below); is = f .is; beats = beats-two b x y l i k (beats-more b x y p q s e k) (λ j h. f .beats (suc j) (omega arith)) })
+
+  from-first : (x : A) (l : List A) → ((m : A) → Mem m (x ∷ l) → P m) → (i : ℕ) × First better d (bestFrom better x l) (x ∷ l) i
+  unfolding bestFrom
+  from-first x [] all = (0, record { below = omega arith; is = refl; beats = λ j h. absurd (omega arith) })
+  from-first x (y ∷ l) all =
+      let w = betterOf better x y in
+      let all-w : (k : A) → Mem k (w ∷ l) → P k = λ k i. all k (betterOf-member better k x y w l (which better x y) i) in
+      let f = from-first w l all-w in
+      first-with (bestFrom better w l) x y w l (f .0) (all-w _ (from-member better w l)) (all x (inl refl)) (all y (inr (inl refl))) (which better x y) (f .1)
+
+  pub best-first : (l : List A) → 1 ≤ length l → ((m : A) → Mem m l → P m) → (i : ℕ) × First better d (best better d l) l i
+  unfolding best
+  best-first [] h all = absurd (omega arith)
+  best-first (x ∷ l) h all = from-first x l all
 
 -- ---- one more member at the end
 from-snoc : {A : Type 0} (better : A → A → Bool) (x : A) (l : List A) (y : A) → bestFrom better x (l ++ (y ∷ [])) ≡ betterOf better (bestFrom better x l) y

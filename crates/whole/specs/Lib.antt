@@ -1,4 +1,4 @@
--- The one rule by which every crate names its laws: the operation that the law is about, then what it says of it, as mul-nonneg, before-trans, lowest-bound.
+-- The one rule by which every crate names its laws: the operation that the law is about, then what it says of it, as mul-nonneg, before-irrefl, lowest-bound.
 --   refl irrefl sym asym trans antisym total comm assoc    of a relation or an operation, by the usual names
 --   nonneg pos              the value is at least 0, at least 1
 --   bound member at length  what bounds the value; that it is in the list; what stands at an index; how long the list is
@@ -14,6 +14,7 @@
 pub mod Member
 pub mod Lowest
 pub mod Best
+pub mod Table
 pub mod Within
 pub mod Time
 pub mod Determined

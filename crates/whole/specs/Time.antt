@@ -6,6 +6,7 @@
 --   greatest l      the greatest of a list of times        least l     the least of a list of times
 --   gcd m n         the greatest common divisor of m and n
 --   reduced n d     n/d in lowest terms                    Reduced t   t is in lowest terms
+--   lowestTerms t   t in lowest terms
 --   Short t         its n and its d fit four bytes each
 use mathlib.Core.Path.{_≡_}
 use mathlib.Core.Bool.{Bool}
@@ -46,6 +47,9 @@ gcd m n = gcdWithin (suc n) m n
 unfoldable pub reduced : ℕ → ℕ → Time
 unfolding gcd
 reduced n d = time (n / gcd n d) (d / gcd n d)
+
+abbrev pub lowestTerms : Time → Time
+lowestTerms t = reduced (t .n) (t .d)
 
 pub record Reduced (t : Time) : Type 0 where
   pub proper : Proper t

@@ -10,6 +10,7 @@ use mir.Facts.{toZ-ofZ}
 use borrow.Author.Needs.{needs}
 use Rattle.whole.specs.Within.{Within}
 use Rattle.whole.proofs.Bound.{bounds, fits, within}
+use Rattle.span.proofs.Casts.{limit-within}
 use Rattle.plane.specs.Point.{dot}
 use Rattle.plane.specs.Near.{Near}
 use Rattle.plane.specs.declared.Corner.{Corner}
@@ -20,7 +21,6 @@ use Rattle.verdict.specs.HeldMove.{Fit, moveHeld}
 use Rattle.verdict.specs.Sides.{sideCount, sideOf}
 use Rattle.verdict.specs.Span.{span}
 use Rattle.verdict.specs.declared.HeldMove.{HeldMove}
-use Rattle.verdict.proofs.Standing.{limit-within}
 use Rattle.verdict.proofs.FitSpans.{side-near, low-a-within, low-b-within, high-a-within, high-b-within, speed-a-within, speed-b-within}
 use Rattle.verdict.proofs.spans.span.Statement.{statement}
 use Rattle.verdict.proofs.spans.span.Tie as tie
@@ -29,7 +29,7 @@ use Rattle.verdict.proofs.spans.span.Lts as lts
 use Rattle.outline.proofs.project.Reads as project-reads
 use Rattle.plane.proofs.dot.Reads as dot-reads
 use Rattle.verdict.proofs.spans.side.Reads as side-reads
-use Rattle.verdict.proofs.spans.window.Reads as window-reads
+use Rattle.span.proofs.window.Reads as window-reads
 
 side-requires : tie.Need-side-requires
 side-requires c κs = search needs
@@ -121,7 +121,7 @@ module _ (c : lts.After-dot2 (side-reads.Asked, side-reads.Learnt, project-reads
 
   limit-is : toZ w64 (ofZ w64 (m .limit)) ≡ m .limit
   limit-is =
-      let t = limit-within (m .limit) (fit .from-zero) (fit .to-limit) in
+      let t = limit-within (m .limit) (fit .from-zero, fit .to-limit) in
       let f : SFits w64 (m .limit) = fits (search bounds depth 4) tt in
       toZ-ofZ f
 
@@ -146,8 +146,7 @@ window-requires c κs =
       within (search bounds depth 12) tt,
       within (search bounds depth 12) tt,
       within (search bounds depth 12) tt,
-      rw (limit-is at) (fit at .from-zero),
-      rw (limit-is at) (fit at .to-limit),
+      rw (limit-is at) (fit at .from-zero, fit at .to-limit),
     )
 
 returns : tie.Need-returns

@@ -1,0 +1,74 @@
+-- The promise of the verdict: what it says of an accepted move is so. A sound outline is wide, and of wide outlines each of the three answers is right.
+--   promise           of the verdict of an accepted move
+--   promise-unless    of the answer to it, by a refusal that is 0
+--   promise-lists     of the answer to a move that is handed in as lists
+--   contact-exactly   the verdict is a contact exactly when the outlines meet at some time from 0 to the limit
+use mathlib.Core.Path.{_≡_, refl, subst}
+use mathlib.Core.Bool.{true}
+use mathlib.Core.Logic.{_↔_}
+use mathlib.Core.List.{List}
+use Prim.Native.Nat.{ℕ, _≤_}
+use native.Mathlib.Omega.{arith}
+use lib.IntN.{ℤ, natAbs}
+use lib.ListN.{length}
+use borrow.Author.Tests.{eq-eqb}
+use Rattle.span.specs.Outcome.{emptyPlace}
+use Rattle.span.proofs.Outcomes.{outcome-by}
+use Rattle.plane.specs.declared.Corner.{Corner}
+use Rattle.plane.proofs.Wide.{Wide}
+use Rattle.outline.specs.Sound.{isSound}
+use Rattle.outline.proofs.Soundness.{sound-yes}
+use Rattle.outline.proofs.WideOutline.{sound-wide}
+use Rattle.verdict.specs.Move.{Move, moveOfLists}
+use Rattle.verdict.specs.Span.{spans}
+use Rattle.verdict.specs.Verdict.{verdictFrom, verdict}
+use Rattle.verdict.specs.Refusal.{refusal, refusalOfLists}
+use Rattle.verdict.specs.Answer.{answerUnless, answerOfLists}
+use Rattle.verdict.specs.declared.Evidence.{Evidence}
+use Rattle.verdict.specs.declared.Answer.{Answer}
+use Rattle.verdict.specs.declared.Answer.the-variants.{ClearByOne, ClearByTwo, Contact, Refused}
+use Rattle.verdict.proofs.Accepted.{accepted-yes}
+use Rattle.verdict.proofs.Listed.{lists-accepted}
+use Rattle.verdict.proofs.SideSpans.{spans-length, spans-good}
+use Rattle.promise.specs.Promise.{InTime, MeetAt, Promise}
+use Rattle.promise.proofs.Clearing.{promise-by-one, promise-by-two}
+use Rattle.promise.proofs.Contacted.{promise-contact}
+
+-- ---- wide outlines
+module _ (m : Move) (wa : Wide (m .a)) (wb : Wide (m .b)) where
+  some : 1 ≤ length (spans m)
+  some = omega (arith, spans-length m, wa .some)
+
+  pub promise-wide : Promise m (verdict m)
+  unfolding verdict
+  promise-wide =
+      outcome-by (natAbs (m .limit)) (spans m) some (spans-good m (wa .some) (wb .some)) (λ o. Promise m (verdictFrom m o))
+      (λ h e. promise-by-one m wa wb (emptyPlace (spans m)) (omega (arith, spans-length m)) e) (λ a e. promise-by-two m wa wb a e) (λ a e. promise-contact m wa wb a e _)
+
+-- ---- accepted moves
+accepted-wide : (A : List Corner) → isSound A ≡ true → Wide A
+accepted-wide A e = sound-wide A (sound-yes A e)
+
+pub promise : (m : Move) → refusal m ≡ 0 → Promise m (verdict m)
+promise m e = let r = accepted-yes m e in promise-wide m (accepted-wide (m .a) (r .sound-a)) (accepted-wide (m .b) (r .sound-b))
+
+pub promise-unless : (r : ℕ) (m : Move) → r ≡ 0 → refusal m ≡ 0 → Promise m (answerUnless r m)
+unfolding answerUnless
+promise-unless r m z e = rw (eq-eqb r 0 z) (promise m e)
+
+pub promise-lists : (xs ys : List ℤ) (va vb : Corner) (T : ℤ) → refusalOfLists xs ys va vb T ≡ 0 → Promise (moveOfLists xs ys va vb T) (answerOfLists xs ys va vb T)
+unfolding answerOfLists
+promise-lists xs ys va vb T e = promise-unless (refusalOfLists xs ys va vb T) (moveOfLists xs ys va vb T) e (lists-accepted xs ys va vb T e)
+
+-- ---- contact
+pub contact-exactly : (m : Move) → refusal m ≡ 0 → ((e : Evidence) × (verdict m ≡ Contact e)) ↔ ((n : ℕ) × (d : ℕ) × InTime m n d × MeetAt m n d)
+contact-exactly m z = (
+  λ (e, is). let c = subst (Promise m) is (promise m z) in (e .first .n, e .first .d, c .first-in-time, c .first-meets),
+  λ (n, d, t, c). go n d t c (verdict m) refl (promise m z),
+)
+  where
+    go : (n d : ℕ) → InTime m n d → MeetAt m n d → (r : Answer) → verdict m ≡ r → Promise m r → (e : Evidence) × (verdict m ≡ Contact e)
+    go n d t c (ClearByOne k) is p = absurd (p .0 n d t c)
+    go n d t c (ClearByTwo i j) is p = absurd (p .0 n d t c)
+    go n d t c (Contact e) is p = (e, is)
+    go n d t c (Refused r) is p = absurd p

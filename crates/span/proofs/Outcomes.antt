@@ -1,0 +1,77 @@
+-- The outcome of a list of spans by its cases: a span is empty, or all are full and the greatest begin exceeds the least end, or it does not.
+use mathlib.Core.Path.{_≡_, refl, sym, ap, subst}
+use mathlib.Core.Bool.{true, false, false≢true}
+use mathlib.Core.List.{List}
+use Prim.Native.Nat.{ℕ, _≤_, _<_}
+use native.Mathlib.Omega.{arith}
+use lib.Dec.{ltb}
+use lib.ListN.{length}
+use borrow.Author.Tests.{ltb-true, ltb-false}
+use Rattle.whole.specs.Time.{before, lowestTerms, Proper, Short}
+use Rattle.whole.specs.declared.Time.{Time}
+use Rattle.whole.proofs.Flags.{cond-by}
+use Rattle.whole.proofs.Fractions.{reduced-reduced, reduced-short}
+use Rattle.whole.proofs.Indices.{lowest-yes, lowest-below, lowest-is, lowest-none}
+use Rattle.span.specs.Outcome.{isEmpty, spanAt, emptyPlace, firstOf, lastOf, firstPlace, lastPlace, lead, outcome}
+use Rattle.span.specs.Lead.{Comparable}
+use Rattle.span.specs.declared.Span.{Span}
+use Rattle.span.specs.declared.Span.the-variants.{Empty, Between}
+use Rattle.span.specs.declared.Outcome.{Outcome}
+use Rattle.span.specs.declared.Outcome.the-variants.{ByOne, ByTwo, FromTo}
+use Rattle.span.proofs.Windows.{Good, ShortSpan, short-begin, short-end}
+use Rattle.span.proofs.Firsts.{Full, AllFull, firstPlace-at, lastPlace-at, first-proper, last-proper}
+
+empty-is : (s : Span) → isEmpty s ≡ true → s ≡ Empty
+empty-is Empty e = refl
+empty-is (Between b e) h = absurd (false≢true h)
+
+good-full : (T : ℕ) (s : Span) → isEmpty s ≡ false → Good T s → Full s
+good-full T Empty e g = absurd (false≢true (sym e))
+good-full T (Between b e) h g = (g .begin-proper, g .end-proper)
+
+-- ---- the lowest empty span
+module _ (l : List Span) where
+  pub emptyPlace-yes : emptyPlace l < length l → spanAt l (emptyPlace l) ≡ Empty
+  emptyPlace-yes h = empty-is (spanAt l (emptyPlace l)) (lowest-yes (λ k. isEmpty (spanAt l k)) (length l) h)
+
+  pub emptyPlace-is : (i : ℕ) → i < length l → spanAt l i ≡ Empty → ((j : ℕ) → j < i → isEmpty (spanAt l j) ≡ false) → emptyPlace l ≡ i
+  emptyPlace-is i h e = lowest-is (λ k. isEmpty (spanAt l k)) (length l) i h (ap isEmpty e)
+
+  pub emptyPlace-none : ((j : ℕ) → j < length l → isEmpty (spanAt l j) ≡ false) → emptyPlace l ≡ length l
+  emptyPlace-none = lowest-none (λ k. isEmpty (spanAt l k)) (length l)
+
+-- ---- spans that are well made, at least one
+module _ (T : ℕ) (l : List Span) (some : 1 ≤ length l) (good : (k : ℕ) → k < length l → Good T (spanAt l k)) where
+  pub all-full : length l ≤ emptyPlace l → AllFull l
+  all-full none = record { some = some; full = λ k i. good-full T (spanAt l k) (lowest-below (λ k. isEmpty (spanAt l k)) (length l) k (omega arith)) (good k i) }
+
+  pub outcome-by : (Q : Outcome → Type 0)
+      → (emptyPlace l < length l → spanAt l (emptyPlace l) ≡ Empty → Q (ByOne (emptyPlace l)))
+      → (AllFull l → before (lastOf l) (firstOf l) ≡ true → Q (ByTwo (firstPlace l) (lastPlace l)))
+      → (AllFull l → before (lastOf l) (firstOf l) ≡ false → Q (FromTo (lead (lowestTerms (firstOf l)) (firstPlace l)) (lead (lowestTerms (lastOf l)) (lastPlace l))))
+      → Q (outcome l)
+  unfolding outcome
+  outcome-by Q one two from-to =
+      cond-by Q (ltb (emptyPlace l) (length l)) _ _ (λ e. let h = ltb-true (emptyPlace l) (length l) e in one h (emptyPlace-yes l h))
+      (λ e. let a = all-full (ltb-false (emptyPlace l) (length l) e) in cond-by Q (before (lastOf l) (firstOf l)) _ _ (two a) (from-to a))
+
+-- ---- spans whose times are short too: so are those of the outcome
+pub record Made (T : ℕ) (l : List Span) : Type 0 where
+  pub good : (k : ℕ) → k < length l → Good T (spanAt l k)
+  pub short : (k : ℕ) → k < length l → ShortSpan (spanAt l k)
+
+abbrev pub Timed : Outcome → Type 0
+Timed (ByOne k) = Unit {0}
+Timed (ByTwo i j) = Unit {0}
+Timed (FromTo first last) = Comparable (first .at) × Comparable (last .at)
+
+lowestTerms-comparable : (t : Time) → Proper t → Short t → Comparable (lowestTerms t)
+lowestTerms-comparable t p h = (reduced-reduced (t .n) (t .d) p .proper, reduced-short (t .n) (t .d) h)
+
+pub outcome-timed : (T : ℕ) (l : List Span) → 1 ≤ length l → Made T l → Timed (outcome l)
+outcome-timed T l some m =
+    outcome-by T l some (m .good) Timed (λ h e. tt) (λ a e. tt)
+    (λ a e. let f = firstPlace-at l a in let g = lastPlace-at l a in (
+      lowestTerms-comparable (firstOf l) (first-proper l a) (subst Short (sym (f .1)) (short-begin (spanAt l (firstPlace l)) (m .short (firstPlace l) (f .0)))),
+      lowestTerms-comparable (lastOf l) (last-proper l a) (subst Short (sym (g .1)) (short-end (spanAt l (lastPlace l)) (m .short (lastPlace l) (g .0)))),
+    ))

@@ -1,0 +1,277 @@
+-- A window holds exactly the times s from 0 to T with lo ≤ s w ≤ hi. For w above zero its begin has the value of the greater of lo and 0 over w, its end that of the lesser of hi and T w over w, and both are compared with s by cross products; w below zero is the same with all three turned round.
+use mathlib.Core.Path.{_≡_, refl, ap}
+use mathlib.Core.Bool.{Bool, true, false, cond}
+use mathlib.Core.Logic.{_↔_, _⊎_, _≢_, inl, inr}
+use mathlib.Core.List.{[], _∷_}
+use Prim.Native.Nat.{ℕ, zero, suc, _*_, _^_, _≤_, _<_, min, max}
+use native.Mathlib.Nat.{mul-le-mul-right, mul-lt-mul-of-pos-right, eq-of-mul-eq-mul-right}
+use native.Mathlib.Omega.{arith}
+use lib.Dec.{ltb}
+use lib.IntN.{ℤ, pos, negsuc, negℤ, natAbs, _*ℤ_, *ℤ-comm}
+use lib.Signed.{_≤ℤ_, _<ℤ_, ltZ}
+use borrow.Author.Tests.{ltb-true, ltb-false, lt-ltb, le-ltb}
+use Rattle.whole.specs.Time.{time, before, Proper, Short}
+use Rattle.whole.specs.declared.Time.{Time}
+use Rattle.whole.proofs.Flags.{cond-by}
+use Rattle.whole.proofs.Parts.{P, P-neg, N-neg, split, diff}
+use Rattle.whole.proofs.Bound.{abs-neg}
+use Rattle.whole.proofs.Ring.{reps, by-ring}
+use Rattle.whole.proofs.Linear.{ints, lin≡, ≡lin}
+use Rattle.whole.proofs.Order.{mul-≤, mul-<}
+use Rattle.whole.proofs.Fractions.{before-irrefl, before-step}
+use Rattle.span.specs.Window.{beginAhead, endAhead, windowAhead, windowStill, window}
+use Rattle.span.specs.InSpan.{InSpan}
+use Rattle.span.specs.Outcome.{begin, end}
+use Rattle.span.specs.declared.Span.{Span}
+use Rattle.span.specs.declared.Span.the-variants.{Empty, Between}
+
+-- ---- a time with the value p/q; its parts are no greater than k and q
+record Value (p q k : ℕ) (t : Time) : Type 0 where
+  proper : Proper t
+  value : t .n * q ≡ p * t .d
+  n-bound : t .n ≤ k
+  d-bound : t .d ≤ q
+
+whole-value : (p q k T : ℕ) → 1 ≤ q → T * q ≡ p → T ≤ k → Value p q k (time T 1)
+whole-value p q k T h e l = record { proper = omega arith; value = omega arith; n-bound = l; d-bound = h }
+
+quotient-value : (p q k : ℕ) → 1 ≤ q → p ≤ k → Value p q k (time p q)
+quotient-value p q k h l = record { proper = h; value = refl; n-bound = l; d-bound = omega arith }
+
+module _ (p q k : ℕ) (t : Time) (h : 1 ≤ q) (v : Value p q k t) where
+  value-le : before t (time p q) ≡ false
+  unfolding before
+  value-le = le-ltb (t .n * q) (p * t .d) (omega (arith, v .value))
+
+  value-ge : before (time p q) t ≡ false
+  unfolding before
+  value-ge = le-ltb (p * t .d) (t .n * q) (omega (arith, v .value))
+
+  value-begin : (n d : ℕ) → (before (time n d) t ≡ false) ↔ (p * d ≤ n * q)
+  unfolding before
+  value-begin n d = (λ e. ltb-false _ _ (before-step (time p q) t (time n d) (v .proper) value-le e), λ l. before-step t (time p q) (time n d) h value-ge (le-ltb _ _ l))
+
+  value-end : (n d : ℕ) → (before t (time n d) ≡ false) ↔ (n * q ≤ p * d)
+  unfolding before
+  value-end n d = (λ e. ltb-false _ _ (before-step (time n d) t (time p q) (v .proper) e value-ge), λ l. before-step (time n d) (time p q) t h (le-ltb _ _ l) value-le)
+
+-- a begin is 0/1, or after zero; an end is T/1, or before T
+abbrev pub Started : Time → Type 0
+Started b = (b ≡ time 0 1) ⊎ (before (time 0 1) b ≡ true)
+
+abbrev pub Ended : ℕ → Time → Type 0
+Ended T e = (e ≡ time T 1) ⊎ (before e (time T 1) ≡ true)
+
+-- ---- for w above zero
+-- the three kinds of window: ended before 0, begun after T, or with a begin and an end
+data Ahead (lo : ℤ) (q T : ℕ) : ℤ → Span → Type 0 where
+  ended : (k : ℕ) → Ahead lo q T (negsuc k) Empty
+  late : (h : ℕ) → T * q < P lo → Ahead lo q T (pos h) Empty
+  between : (h : ℕ) (b e : Time) → P lo ≤ T * q → Value (P lo) q (natAbs lo) b → Value (min h (T * q)) q (max h T) e → Started b → Ended T e → Ahead lo q T (pos h) (Between b e)
+
+begin-value : (lo : ℤ) (q : ℕ) → 1 ≤ q → Value (P lo) q (natAbs lo) (beginAhead lo (pos q))
+begin-value (pos p) q h = cond-by (Value p q p) (ltb 0 p) (time p q) (time 0 1) (λ e. quotient-value p q p h (omega arith)) (λ e. whole-value p q p 0 h (omega (arith, ltb-false)) (omega arith))
+begin-value (negsuc k) q h = whole-value 0 q (suc k) 0 h (omega arith) (omega arith)
+
+end-value : (h q T : ℕ) → 1 ≤ q → Value (min h (T * q)) q (max h T) (endAhead (pos h) (pos q) T)
+end-value h q T l =
+    cond-by (Value (min h (T * q)) q (max h T)) (ltb h (T * q)) (time h q) (time T 1)
+    (λ e. let less : min h (T * q) ≡ h = omega (arith, ltb-true) in rw less (quotient-value h q (max h T) l (omega arith)))
+    (λ e. whole-value (min h (T * q)) q (max h T) T l (omega (arith, ltb-false)) (omega arith))
+
+begin-started : (lo : ℤ) (q : ℕ) → Started (beginAhead lo (pos q))
+unfolding before
+begin-started (pos p) q = cond-by Started (ltb 0 p) (time p q) (time 0 1) (λ e. inr (lt-ltb (0 * q) (p * 1) (omega (arith, ltb-true)))) (λ e. inl refl)
+begin-started (negsuc k) q = inl refl
+
+end-ended : (h q T : ℕ) → Ended T (endAhead (pos h) (pos q) T)
+unfolding before
+end-ended h q T = cond-by (Ended T) (ltb h (T * q)) (time h q) (time T 1) (λ e. inr (lt-ltb (h * 1) (T * q) (omega (arith, ltb-true)))) (λ e. inl refl)
+
+positive-le : (z : ℤ) (m : ℕ) → z ≤ℤ pos m → P z ≤ m
+positive-le (pos p) m h = omega ints
+positive-le (negsuc k) m h = omega arith
+
+ahead : (lo hi : ℤ) (q T : ℕ) → 1 ≤ q → Ahead lo q T hi (windowAhead lo hi (pos q) T)
+unfolding windowAhead
+ahead lo (negsuc k) q T l = ended k
+ahead lo (pos h) q T l =
+    rw (le-ltb h 0 (omega arith))
+    (cond-by (Ahead lo q T (pos h)) (ltZ (pos (T * q)) lo) Empty _ (λ e. late h (omega ints)) (λ e. between h _ _ (positive-le lo (T * q) (omega ints)) (begin-value lo q l) (end-value h q T l) (begin-started lo q) (end-ended h q T)))
+
+-- ---- for any w: above zero, below zero, or zero with lo above, with hi below, or with neither
+data Windowed (lo hi : ℤ) (T : ℕ) : ℤ → Span → Type 0 where
+  forth : {s : Span} (q : ℕ) → 1 ≤ q → Ahead lo q T hi s → Windowed lo hi T (pos q) s
+  back : {s : Span} (k : ℕ) → Ahead (negℤ hi) (suc k) T (negℤ lo) s → Windowed lo hi T (negsuc k) s
+  above : pos 0 <ℤ lo → Windowed lo hi T (pos 0) Empty
+  below : hi <ℤ pos 0 → Windowed lo hi T (pos 0) Empty
+  always : lo ≤ℤ pos 0 → pos 0 ≤ℤ hi → Windowed lo hi T (pos 0) (Between (time 0 1) (time T 1))
+
+windowed : (lo hi w : ℤ) (T : ℕ) → Windowed lo hi T w (window lo hi w T)
+unfolding window windowStill
+windowed lo hi (pos zero) T =
+    cond-by (Windowed lo hi T (pos 0)) (ltZ (pos 0) lo) Empty _ (λ e. above (omega ints))
+    (λ e. cond-by (Windowed lo hi T (pos 0)) (ltZ hi (pos 0)) Empty _ (λ f. below (omega ints)) (λ f. always (omega ints) (omega ints)))
+windowed lo hi (pos (suc q)) T = rw (lt-ltb 0 (suc q) (omega arith)) (forth (suc q) (omega arith) (ahead lo hi (suc q) T (omega arith)))
+windowed lo hi (negsuc k) T = back k (ahead (negℤ hi) (negℤ lo) (suc k) T (omega arith))
+
+-- ---- the times of the window
+-- what d lo ≤ m says of the part of lo above zero
+low-is : (lo : ℤ) (d m : ℕ) → ((pos d *ℤ lo) ≤ℤ pos m) ↔ (P lo * d ≤ m)
+low-is (pos p) d m = (λ l. omega ints, λ l. omega ints)
+low-is (negsuc k) d m = (λ l. omega arith, λ l. omega (ints, P-neg (pos (d * suc k))))
+
+min-times : (a b d m : ℕ) → m ≤ a * d → m ≤ b * d → m ≤ min a b * d
+min-times a b d m h k = go (ltb a b) refl
+  where
+    go : (t : Bool) → ltb a b ≡ t → m ≤ min a b * d
+    go true e = let less : min a b ≡ a = omega (arith, ltb-true) in rw less h
+    go false e = let less : min a b ≡ b = omega (arith, ltb-false) in rw less k
+
+-- n/d times w is from lo to hi
+abbrev pub Covers : ℤ → ℤ → ℤ → ℕ → ℕ → Type 0
+Covers lo hi w n d = ((pos d *ℤ lo) ≤ℤ (pos n *ℤ w)) × ((pos n *ℤ w) ≤ℤ (pos d *ℤ hi))
+
+module _ (lo : ℤ) (q T n d : ℕ) (hq : 1 ≤ q) (hd : 1 ≤ d) (hn : n ≤ T * d) where
+  limit : n * q ≤ T * q * d
+  limit = omega (arith, mul-le-mul-right q hn)
+
+  ahead-is : {hi : ℤ} {s : Span} → Ahead lo q T hi s → InSpan (time n d) s ↔ Covers lo hi (pos q) n d
+  ahead-is (ended k) = (λ b. absurd b, λ c. absurd (omega (ints, P-neg (pos (d * suc k)), N-neg (pos (d * suc k)))))
+  ahead-is (late h l) = (λ b. absurd b, λ c. absurd (omega (arith, low-is lo d (n * q) .0 (c .0), limit, mul-lt-mul-of-pos-right {k = d} l hd)))
+  ahead-is (between h b e l vb ve sb se) =
+      let p = min h (T * q) in
+      let from = value-begin (P lo) q (natAbs lo) b hq vb n d in
+      let to = value-end p q (max h T) e hq ve n d in
+      let low = low-is lo d (n * q) in
+      let part : p * d ≤ h * d = mul-le-mul-right d (omega arith) in
+      (λ i. let k = to .0 (i .1) in (low .1 (from .0 (i .0)), omega ints), λ c. (from .1 (low .0 (c .0)), to .1 (min-times h (T * q) d (n * q) (omega ints) limit)))
+
+-- w below zero: an order turned round
+neg-le : (a b : ℤ) → (negℤ b ≤ℤ negℤ a) ↔ (a ≤ℤ b)
+neg-le a b = rw (split a, split b) (simp diff (omega arith))
+
+neg-mul : (a z : ℤ) → a *ℤ negℤ z ≡ negℤ (a *ℤ z)
+neg-mul a z = by-ring (a ∷ z ∷ []) (search reps depth 9) (search reps depth 9) tt
+
+turned : (a z b w : ℤ) → ((a *ℤ negℤ z) ≤ℤ (b *ℤ negℤ w)) ↔ ((b *ℤ w) ≤ℤ (a *ℤ z))
+turned a z b w = rw (neg-mul a z, neg-mul b w) (neg-le (b *ℤ w) (a *ℤ z))
+
+windowed-is : {lo hi w : ℤ} {T : ℕ} {s : Span} → Windowed lo hi T w s → (n d : ℕ) → 1 ≤ d → n ≤ T * d → InSpan (time n d) s ↔ Covers lo hi w n d
+unfolding before
+windowed-is {lo} {T} (forth q hq a) n d hd hn = ahead-is lo q T n d hq hd hn a
+windowed-is {lo} {hi} {T} (back k a) n d hd hn =
+    let i = ahead-is (negℤ hi) (suc k) T n d (omega arith) hd hn a in
+    let low = turned (pos n) (negsuc k) (pos d) lo in
+    let high = turned (pos d) hi (pos n) (negsuc k) in
+    (λ s. let c = i .0 s in (low .0 (c .1), high .0 (c .0)), λ c. i .1 (high .1 (c .1), low .1 (c .0)))
+windowed-is {lo} (above l) n d hd hn = (λ b. absurd b, λ c. absurd (omega (ints, mul-< (pos 0) lo (pos d) l (omega ints), *ℤ-comm (pos d) lo)))
+windowed-is {hi} (below l) n d hd hn = (λ b. absurd b, λ c. absurd (omega (ints, mul-< hi (pos 0) (pos d) l (omega ints), *ℤ-comm (pos d) hi)))
+windowed-is {lo} {hi} {T} (always l h) n d hd hn =
+    (λ i. (omega (ints, mul-≤ lo (pos 0) (pos d) l (omega ints), *ℤ-comm (pos d) lo), omega (ints, mul-≤ (pos 0) hi (pos d) h (omega ints), *ℤ-comm (pos d) hi)), λ c. (le-ltb (n * 1) (0 * d) (omega arith), le-ltb (T * d) (n * 1) (omega arith)))
+
+pub window-is : (lo hi w : ℤ) (T n d : ℕ) → 1 ≤ d → n ≤ T * d → InSpan (time n d) (window lo hi w T) ↔ Covers lo hi w n d
+window-is lo hi w T = windowed-is (windowed lo hi w T)
+
+-- ---- its begin and its end: no later than T, and in order
+pub record Bounds (T : ℕ) (b e : Time) : Type 0 where
+  pub begin-proper : Proper b
+  pub end-proper : Proper e
+  pub begin-started : Started b
+  pub end-ended : Ended T e
+  pub begin-limited : before (time T 1) b ≡ false
+  pub end-limited : before (time T 1) e ≡ false
+  pub ordered : before e b ≡ false
+
+abbrev pub Good : ℕ → Span → Type 0
+Good T Empty = Unit {0}
+Good T (Between b e) = Bounds T b e
+
+ahead-good : {lo hi : ℤ} {q T : ℕ} {s : Span} → 1 ≤ q → lo ≤ℤ hi → Ahead lo q T hi s → Good T s
+ahead-good hq l (ended k) = tt
+ahead-good hq l (late h k) = tt
+ahead-good {lo} {q} {T} hq l (between h b e k vb ve sb se) =
+    let p = min h (T * q) in
+    let less : P lo ≤ p = omega (arith, positive-le lo h l) in
+    record {
+      begin-proper = vb .proper;
+      end-proper = ve .proper;
+      begin-started = sb;
+      end-ended = se;
+      begin-limited = value-begin (P lo) q (natAbs lo) b hq vb T 1 .1 (omega arith);
+      end-limited = value-begin p q (max h T) e hq ve T 1 .1 (omega arith);
+      ordered = value-end p q (max h T) e hq ve (b .n) (b .d) .1 (omega (arith, vb .value, mul-le-mul-right (b .d) less));
+    }
+
+windowed-good : {lo hi w : ℤ} {T : ℕ} {s : Span} → lo ≤ℤ hi → Windowed lo hi T w s → Good T s
+unfolding before
+windowed-good l (forth q hq a) = ahead-good hq l a
+windowed-good {lo} {hi} l (back k a) = ahead-good (omega arith) (neg-le lo hi .1 l) a
+windowed-good l (above h) = tt
+windowed-good l (below h) = tt
+windowed-good {T} l (always h k) =
+    let limited : before (time T 1) (time 0 1) ≡ false = le-ltb (T * 1) (0 * 1) (omega arith) in
+    record { begin-proper = omega arith; end-proper = omega arith; begin-started = inl refl; end-ended = inl refl; begin-limited = limited; end-limited = before-irrefl (time T 1); ordered = limited }
+
+pub window-good : (lo hi w : ℤ) (T : ℕ) → lo ≤ℤ hi → Good T (window lo hi w T)
+window-good lo hi w T l = windowed-good l (windowed lo hi w T)
+
+-- ---- a begin above zero: at a time n/d of that value n/d times w is lo, or hi where w is below zero
+abbrev pub Reaches : ℤ → ℤ → Time → Type 0
+Reaches z w t = pos (t .d) *ℤ z ≡ pos (t .n) *ℤ w
+
+module _ (t : Time) where
+  -- t has the value of b, which has the value of lo/q
+  value-reached : (lo : ℤ) (q k : ℕ) (b : Time) → 1 ≤ q → Value (P lo) q k b → t .n * b .d ≡ b .n * t .d → b .n ≢ 0 → Reaches lo (pos q) t
+  value-reached (pos p) q k b h v e z =
+      let is : p * t .d ≡ t .n * q = eq-of-mul-eq-mul-right (b .d) (v .proper) (p * t .d) (t .n * q) (omega (arith, ap (λ x. x * t .d) (v .value), ap (λ x. x * q) e)) in
+      ap pos (omega (arith, is))
+  value-reached (negsuc j) q k b h v e z = absurd (omega (arith, v .value, mul-le-mul-right (b .n) h))
+
+  ahead-reached : {lo hi : ℤ} {q T : ℕ} {s : Span} → 1 ≤ q → Ahead lo q T hi s → t .n * begin s .d ≡ begin s .n * t .d → begin s .n ≢ 0 → Reaches lo (pos q) t
+  ahead-reached hq (ended k) e z = absurd (z refl)
+  ahead-reached hq (late h l) e z = absurd (z refl)
+  ahead-reached {lo} {q} hq (between h b e l vb ve sb se) is z = value-reached lo q (natAbs lo) b hq vb is z
+
+  turned-≡ : (a z b w : ℤ) → a *ℤ negℤ z ≡ b *ℤ negℤ w → a *ℤ z ≡ b *ℤ w
+  turned-≡ a z b w e =
+      let ρ = a ∷ z ∷ b ∷ w ∷ [] in
+      ≡lin ρ (search reps depth 12) tt (omega (arith, lin≡ ρ (search reps depth 12) tt e))
+
+  windowed-reached : {lo hi w : ℤ} {T : ℕ} {s : Span} → Windowed lo hi T w s → t .n * begin s .d ≡ begin s .n * t .d → begin s .n ≢ 0 → Reaches lo w t ⊎ Reaches hi w t
+  windowed-reached (forth q hq a) e z = inl (ahead-reached hq a e z)
+  windowed-reached {hi = hi} (back k a) e z = inr (turned-≡ (pos (t .d)) hi (pos (t .n)) (negsuc k) (ahead-reached (omega arith) a e z))
+  windowed-reached (above l) e z = absurd (z refl)
+  windowed-reached (below l) e z = absurd (z refl)
+  windowed-reached (always l h) e z = absurd (z refl)
+
+  pub window-reached : (lo hi w : ℤ) (T : ℕ) → t .n * begin (window lo hi w T) .d ≡ begin (window lo hi w T) .n * t .d → begin (window lo hi w T) .n ≢ 0 → Reaches lo w t ⊎ Reaches hi w t
+  window-reached lo hi w T = windowed-reached (windowed lo hi w T)
+
+-- both fit four bytes
+abbrev pub ShortSpan : Span → Type 0
+ShortSpan Empty = Unit {0}
+ShortSpan (Between b e) = Short b × Short e
+
+ahead-short : {lo hi : ℤ} {q T : ℕ} {s : Span} → natAbs lo < 2 ^ 32 → natAbs hi < 2 ^ 32 → q < 2 ^ 32 → T < 2 ^ 32 → Ahead lo q T hi s → ShortSpan s
+ahead-short a b c t (ended k) = tt
+ahead-short a b c t (late h k) = tt
+ahead-short a b c t (between h x e k vb ve sb se) = omega arith
+
+windowed-short : {lo hi w : ℤ} {T : ℕ} {s : Span} → natAbs lo < 2 ^ 32 → natAbs hi < 2 ^ 32 → natAbs w < 2 ^ 32 → T < 2 ^ 32 → Windowed lo hi T w s → ShortSpan s
+windowed-short a b c t (forth q hq v) = ahead-short a b c t v
+windowed-short {lo} {hi} a b c t (back k v) = ahead-short (rw (abs-neg hi) b) (rw (abs-neg lo) a) c t v
+windowed-short a b c t (above h) = tt
+windowed-short a b c t (below h) = tt
+windowed-short a b c t (always h k) = omega arith
+
+pub window-short : (lo hi w : ℤ) (T : ℕ) → natAbs lo < 2 ^ 32 → natAbs hi < 2 ^ 32 → natAbs w < 2 ^ 32 → T < 2 ^ 32 → ShortSpan (window lo hi w T)
+window-short lo hi w T a b c t = windowed-short a b c t (windowed lo hi w T)
+
+pub short-begin : (s : Span) → ShortSpan s → Short (begin s)
+short-begin Empty h = record { n-short = omega arith; d-short = omega arith }
+short-begin (Between b e) h = h .0
+
+pub short-end : (s : Span) → ShortSpan s → Short (end s)
+short-end Empty h = record { n-short = omega arith; d-short = omega arith }
+short-end (Between b e) h = h .1

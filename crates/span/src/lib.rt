@@ -1,0 +1,156 @@
+// Spans of time on a line: when a shift is from lo to hi, and what a list of spans has in common. Times are kept as they are found, n over d:
+// to compare them nothing has to be divided, and only the outcome is brought to lowest terms.
+ghost use mathlib.Core.Path.{_≡_};
+ghost use lib.IntN.{pos, natAbs};
+ghost use lib.Signed.{_≤ℤ_, _<ℤ_};
+ghost use Rattle.whole.specs.Within.{Within};
+ghost use Rattle.whole.specs.Time.{Short};
+ghost use Rattle.span.specs.Window.{beginAhead, endAhead, windowAhead, windowStill, window};
+ghost use Rattle.span.specs.Lead.{later, sooner, concluded, Comparable, Limited};
+use whole::Time;
+
+// A span of times: none, or those from begin to end.
+pub enum Span {
+    Empty,
+    Between(Time, Time),
+}
+
+// A begin or an end, and the lowest place of its list that has it.
+pub struct Lead {
+    pub at: Time,
+    pub place: usize,
+}
+
+// What the spans of a list have in common: nothing, since one of them is empty; nothing, since two of them are apart; or the times from first to last.
+pub enum Outcome {
+    ByOne(usize),
+    ByTwo(usize, usize),
+    FromTo(Lead, Lead),
+}
+
+// When a shift that grows by w reaches lo.
+fn begin_at(lo: i64, w: i64) -> Time
+    requires { ⌜ Within 1500000000 lo × Within 1500000000 w × (pos 0 <ℤ w) ⌝ }
+    ensures { λ r. ⌜ r ≡ beginAhead lo w ⌝ }
+{
+    if 0 < lo {
+        return Time {
+            n: lo as u64,
+            d: w as u64,
+        };
+    }
+    Time { n: 0, d: 1 }
+}
+
+// When it passes hi, or the limit.
+fn end_at(hi: i64, w: i64, limit: i64) -> Time
+    requires { ⌜ Within 1500000000 hi × (pos 0 ≤ℤ hi) × Within 1500000000 w × (pos 0 <ℤ w) × Limited limit ⌝ }
+    ensures { λ r. ⌜ r ≡ endAhead hi w (natAbs limit) ⌝ }
+{
+    if hi < limit * w {
+        return Time {
+            n: hi as u64,
+            d: w as u64,
+        };
+    }
+    Time {
+        n: limit as u64,
+        d: 1,
+    }
+}
+
+// The times from 0 to the limit at which a shift that grows by w is from lo to hi, for w above zero.
+fn window_ahead(lo: i64, hi: i64, w: i64, limit: i64) -> Span
+    requires { ⌜ Within 1500000000 lo × Within 1500000000 hi × Within 1500000000 w × (pos 0 <ℤ w) × Limited limit ⌝ }
+    ensures { λ r. ⌜ r ≡ windowAhead lo hi w (natAbs limit) ⌝ }
+{
+    if hi < 0 {
+        return Span::Empty;
+    }
+    if limit * w < lo {
+        return Span::Empty;
+    }
+    let begin = begin_at(lo, w);
+    let end = end_at(hi, w, limit);
+    Span::Between(begin, end)
+}
+
+// The same for w zero.
+fn window_still(low: i64, high: i64, limit: i64) -> Span
+    requires { ⌜ Limited limit ⌝ }
+    ensures { λ r. ⌜ r ≡ windowStill low high (natAbs limit) ⌝ }
+{
+    if 0 < low {
+        return Span::Empty;
+    }
+    if high < 0 {
+        return Span::Empty;
+    }
+    Span::Between(
+        Time { n: 0, d: 1 },
+        Time {
+            n: limit as u64,
+            d: 1,
+        },
+    )
+}
+
+// The same for any w: where it is below zero, the shift is turned round.
+pub fn window(lo: i64, hi: i64, w: i64, limit: i64) -> Span
+    requires { ⌜ Within 1500000000 lo × Within 1500000000 hi × Within 1500000000 w × Limited limit ⌝ }
+    ensures { λ r. ⌜ r ≡ window lo hi w (natAbs limit) ⌝ }
+{
+    if 0 < w {
+        return window_ahead(lo, hi, w, limit);
+    }
+    if w < 0 {
+        return window_ahead(-hi, -lo, -w, limit);
+    }
+    window_still(lo, hi, limit)
+}
+
+// The lead with the begin t at place k: it changes where t is greater.
+pub fn later(l: Lead, t: Time, k: usize) -> Lead
+    requires { ⌜ Short (l .at) × Short t ⌝ }
+    ensures { λ r. ⌜ r ≡ later l t k ⌝ }
+{
+    if whole::before(l.at, t) {
+        return Lead { at: t, place: k };
+    }
+    l
+}
+
+// The lead with the end t at place k: it changes where t is less.
+pub fn sooner(l: Lead, t: Time, k: usize) -> Lead
+    requires { ⌜ Short (l .at) × Short t ⌝ }
+    ensures { λ r. ⌜ r ≡ sooner l t k ⌝ }
+{
+    if whole::before(t, l.at) {
+        return Lead { at: t, place: k };
+    }
+    l
+}
+
+// The outcome of spans none of which is empty, from the greatest begin and the least end.
+pub fn concluded(first: Lead, last: Lead) -> Outcome
+    requires { ⌜ Comparable (first .at) × Comparable (last .at) ⌝ }
+    ensures { λ r. ⌜ r ≡ concluded first last ⌝ }
+{
+    let f = first.at;
+    let e = last.at;
+    if whole::before(e, f) {
+        return Outcome::ByTwo(first.place, last.place);
+    }
+    let begin = whole::reduced(f.n, f.d);
+    let end = whole::reduced(e.n, e.d);
+    Outcome::FromTo(
+        Lead {
+            at: begin,
+            place: first.place,
+        },
+        Lead {
+            at: end,
+            place: last.place,
+        },
+    )
+}

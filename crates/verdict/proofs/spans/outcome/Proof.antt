@@ -1,0 +1,153 @@
+-- The loop keeps the leads of the sides passed; at the first empty span the outcome is known, and at the end it follows from the leads.
+use mathlib.Core.Path.{_≡_, sym, _∙_, subst}
+use Prim.Native.Nat.{ℕ, _≤_, _<_, _-_}
+use native.Mathlib.Omega.{arith}
+use lib.IntN.{natAbs}
+use lib.ListN.{length}
+use borrow.Author.Needs.{needs}
+use mir.Syntax.{w64}
+use mir.Val.{SFits}
+use mir.Facts.{toZ-ofZ}
+use Rattle.whole.proofs.Bound.{bounds, fits}
+use Rattle.span.specs.Outcome.{spanAt}
+use Rattle.span.specs.declared.Span.the-variants.{Between}
+use Rattle.span.proofs.Windows.{ShortSpan}
+use Rattle.span.proofs.Casts.{limit-within, limit-cast, limit-short}
+use Rattle.span.proofs.Leading.{Leading, leading-start, leading-step, leading-empty, leading-end}
+use Rattle.verdict.specs.HeldMove.{Fit, moveHeld}
+use Rattle.verdict.specs.Span.{spans}
+use Rattle.verdict.specs.declared.HeldMove.{HeldMove}
+use Rattle.verdict.proofs.SideSpans.{spans-length, spans-at}
+use Rattle.verdict.proofs.FitSpans.{sideCount-is, spans-some, spans-made}
+use Rattle.verdict.proofs.spans.outcome.Statement.{statement}
+use Rattle.verdict.proofs.spans.outcome.Tie as tie
+use Rattle.verdict.proofs.spans.outcome.Reads as reads
+use Rattle.verdict.proofs.spans.outcome.Lts as lts
+use Rattle.span.proofs.concluded.Reads as concluded-reads
+use Rattle.span.proofs.later.Reads as later-reads
+use Rattle.span.proofs.sooner.Reads as sooner-reads
+use Rattle.verdict.proofs.spans.span.Reads as span-reads
+
+abbrev Inv-loop : tie.InvT-loop
+Inv-loop m n first₀ last₀ k₀ first last k = (k ≤ n) × Leading (natAbs (m .limit)) (spans (moveHeld m)) k first last
+
+abbrev μ-loop : tie.MeasureT-loop
+μ-loop m n first₀ last₀ k₀ first last k = n - k
+
+add-n : tie.Need-add-n Inv-loop μ-loop
+add-n c = search needs
+
+limit-fits : (m : HeldMove) → Fit m → SFits w64 (m .limit)
+limit-fits m f = let t = limit-within (m .limit) (f .from-zero, f .to-limit) in fits (search bounds depth 4) tt
+
+cast-t12 : tie.Need-cast-t12 Inv-loop μ-loop
+cast-t12 c =
+    let s = c .before .before .before .before .before .before in
+    limit-cast (s .args .m .limit) (limit-fits (s .args .m) (s .pre)) (s .pre .from-zero, s .pre .to-limit)
+
+loop-holds : tie.Need-loop-holds Inv-loop μ-loop
+loop-holds c =
+    let s = c .before .before .before .before .before .before in
+    let m = s .args .m in
+    (omega arith, rw (toZ-ofZ (limit-fits m (s .pre))) (leading-start (natAbs (m .limit)) (spans (moveHeld m)) (limit-short (m .limit) (s .pre .from-zero, s .pre .to-limit))))
+
+span-requires : tie.Need-span-requires Inv-loop μ-loop
+span-requires c κs =
+    let s = c .before .before .before .before .before .before .before .before in
+    (s .pre, omega (arith, sideCount-is (s .args .m) (s .pre)))
+
+enum-known-s : tie.Need-enum-known-s Inv-loop μ-loop
+enum-known-s c = search needs
+
+enum-told : tie.Need-enum-told Inv-loop μ-loop
+enum-told c = search needs
+
+-- in the loop: the move, its list of spans, and that side k has a place in it
+module _ (c : lts.After-span (span-reads.Asked, span-reads.Learnt, later-reads.Asked, later-reads.Learnt, sooner-reads.Asked, sooner-reads.Learnt, concluded-reads.Asked, concluded-reads.Learnt) reads.Pre reads.Post Inv-loop μ-loop) where
+  abbrev m : HeldMove
+  m = c .before .before .before .before .before .before .before .before .before .args .m
+
+  fit : Fit m
+  fit = c .before .before .before .before .before .before .before .before .before .pre
+
+  abbrev k : ℕ
+  k = c .before .before .loop .k
+
+  below : k < length (spans (moveHeld m))
+  below = omega (arith, sideCount-is m fit, spans-length (moveHeld m), c .before .loop-test .taken)
+
+  found : c .span .result ≡ spanAt (spans (moveHeld m)) k
+  found = c .span .ensures ∙ sym (spans-at (moveHeld m) k (omega (arith, below, spans-length (moveHeld m))))
+
+returns : tie.Need-returns Inv-loop μ-loop
+returns c =
+    let at = c .before .before in
+    let loop = at .before .before .loop in
+    leading-empty (natAbs (m at .limit)) (spans (moveHeld (m at))) (spans-made (m at) (fit at)) (loop .k) (loop .first) (loop .last) (loop .inv .1) (below at) (sym (c .enum-told .given .1) ∙ found at)
+
+-- the begin and the end that were found
+module _ (c : lts.After-s (span-reads.Asked, span-reads.Learnt, later-reads.Asked, later-reads.Learnt, sooner-reads.Asked, sooner-reads.Learnt, concluded-reads.Asked, concluded-reads.Learnt) reads.Pre reads.Post Inv-loop μ-loop) where
+  both : Between (c .s .given .0 .0) (c .s .given .0 .1 .0) ≡ spanAt (spans (moveHeld (m (c .before .before)))) (k (c .before .before))
+  both = sym (c .s .given .1) ∙ found (c .before .before)
+
+  both-short : ShortSpan (Between (c .s .given .0 .0) (c .s .given .0 .1 .0))
+  both-short = let at = c .before .before in subst ShortSpan (sym both) (spans-made (m at) (fit at) .short (k at) (below at))
+
+later-requires : tie.Need-later-requires Inv-loop μ-loop
+later-requires c κs = (c .before .before .before .before .before .loop .inv .1 .begins .comparable .1, both-short (c .before) .0)
+
+sooner-requires : tie.Need-sooner-requires Inv-loop μ-loop
+sooner-requires c κs = (c .before .before .before .before .before .before .loop .inv .1 .ends .comparable .1, both-short (c .before .before) .1)
+
+add-k : tie.Need-add-k Inv-loop μ-loop
+add-k c =
+    let at = c .before .before .before .before .before .before in
+    let s = at .before .before .before .before .before .before .before .before in
+    let a = s .pre .held-a .kept .count in
+    let b = s .pre .held-b .kept .count in
+    record { fits = omega (arith, at .loop-test .taken) }
+
+loop-less : tie.Need-loop-less Inv-loop μ-loop
+loop-less c = omega (arith, c .before .before .before .before .before .before .loop-test .taken)
+
+loop-again : tie.Need-loop-again Inv-loop μ-loop
+loop-again c =
+    let at = c .before .before .before .before .before in
+    let loop = at .before .before .loop in (
+      omega (arith, at .before .loop-test .taken),
+      rw (c .before .later .ensures, c .sooner .ensures)
+          (leading-step (natAbs (m at .limit)) (spans (moveHeld (m at))) (spans-made (m at) (fit at)) (loop .k) (loop .first) (loop .last) (loop .inv .1) _ _ (below at) (both (c .before .before .before))),
+    )
+
+concluded-requires : tie.Need-concluded-requires Inv-loop μ-loop
+concluded-requires c κs =
+    let g = c .before .loop .inv .1 in
+    (g .begins .comparable, g .ends .comparable)
+
+returns-2 : tie.Need-returns-2 Inv-loop μ-loop
+returns-2 c =
+    let at = c .before .before in
+    let s = at .before .before .before .before .before .before .before in
+    let m = s .args .m in
+    c .concluded .ensures ∙ leading-end (natAbs (m .limit)) (spans (moveHeld m)) (spans-made m (s .pre)) (at .loop .k) (at .loop .first) (at .loop .last) (at .loop .inv .1) (spans-some m (s .pre)) (omega (arith, sideCount-is m (s .pre), spans-length (moveHeld m)))
+
+pub outcome-spec : {M : Type 1} → statement M
+outcome-spec =
+    tie.close
+    (tie.spec
+    Inv-loop
+    μ-loop
+    add-n
+    cast-t12
+    loop-holds
+    span-requires
+    enum-known-s
+    enum-told
+    returns
+    later-requires
+    sooner-requires
+    add-k
+    loop-less
+    loop-again
+    concluded-requires
+    returns-2)
