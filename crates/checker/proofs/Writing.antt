@@ -10,14 +10,14 @@ use lib.ListN.{length}
 use borrow.Author.Tests.{lt-ltb, le-ltb, eq-eqb, ne-eqb}
 use Rattle.plane.specs.declared.Corner.{Corner}
 use Rattle.outline.proofs.Ranges.{counted-yes}
-use Rattle.verdict.specs.Move.{moveOfLists}
-use Rattle.verdict.specs.HeldMove.{Fit, moveHeld, heldMove}
-use Rattle.verdict.specs.Refusal.{refusalOfLists}
-use Rattle.verdict.specs.Readings.{readingOfLists}
+use Rattle.moves.specs.Move.{moveOfLists}
+use Rattle.moves.specs.HeldMove.{Fit, moveHeld, heldMove}
+use Rattle.moves.specs.Refusal.{refusalOfLists}
+use Rattle.moves.specs.Reading.{readingOfLists}
 use Rattle.verdict.specs.declared.Answer.{Answer}
-use Rattle.verdict.specs.declared.Reading.{Reading}
-use Rattle.verdict.proofs.Accepted.{accepted-yes}
-use Rattle.verdict.proofs.Listed.{held-accepted, reading-none, reading-some, lists-accepted}
+use Rattle.moves.specs.declared.Reading.{Reading}
+use Rattle.moves.proofs.Accepted.{accepted-yes}
+use Rattle.moves.proofs.Listed.{held-accepted, reading-none, reading-some, lists-accepted}
 use Rattle.frame.specs.MoveFrame.{moveFrame, moveLine}
 use Rattle.frame.specs.AnswerFrame.{answerLine}
 use Rattle.frame.proofs.FrameMove.{moveFrame-length}

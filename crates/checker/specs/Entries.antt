@@ -11,8 +11,8 @@ use lib.Dec.{ltb, eqb}
 use lib.IntN.{ℤ}
 use lib.ListN.{length, drop}
 use Rattle.plane.specs.declared.Corner.{Corner}
-use Rattle.verdict.specs.Move.{moveOfLists}
-use Rattle.verdict.specs.Refusal.{refusalOfLists}
+use Rattle.moves.specs.Move.{moveOfLists}
+use Rattle.moves.specs.Refusal.{refusalOfLists}
 use Rattle.verdict.specs.declared.Answer.{Answer}
 use Rattle.verdict.specs.declared.Answer.the-variants.{ClearByOne, ClearByTwo, Contact, Refused}
 use Rattle.frame.specs.MoveFrame.{moveLine}

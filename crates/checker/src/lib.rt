@@ -6,9 +6,9 @@ ghost use Rattle.frame.specs.Answers.{reading};
 ghost use Rattle.frame.specs.Reading.{answerOfLine};
 ghost use Rattle.checker.specs.Entries.{refusalIn, spoken, spokenOut, writtenMove, writtenMoveOut};
 ghost use Rattle.frame.specs.Sayable.{Sayable};
+use moves::Reading;
 use plane::Corner;
 use verdict::Answer;
-use verdict::Reading;
 
 // What a call that writes a line answers: the number of its refusal, 0 for none, and how many bytes it wrote.
 pub struct Written {
@@ -87,7 +87,7 @@ pub fn write_move(
             bytes: 0,
         };
     }
-    let r = verdict::lists::read_lists(a, b, va, vb, limit);
+    let r = moves::lists::read_lists(a, b, va, vb, limit);
     if r.refusal != 0 {
         return Written {
             refusal: r.refusal,

@@ -9,17 +9,17 @@ use lib.Dec.{eqb}
 use borrow.Author.Tests.{eqb-true, eq-eqb, ne-eqb}
 use Rattle.outline.specs.Refusal.{firstThatApplies, counted}
 use Rattle.outline.proofs.Ranges.{counted-yes}
-use Rattle.verdict.specs.Move.{Move, nothing}
-use Rattle.verdict.specs.HeldMove.{moveHeld, heldMove}
-use Rattle.verdict.specs.Refusal.{refusal}
-use Rattle.verdict.specs.declared.HeldMove.{HeldMove}
+use Rattle.moves.specs.Move.{Move, nothing}
+use Rattle.moves.specs.HeldMove.{moveHeld, heldMove}
+use Rattle.moves.specs.Refusal.{refusal}
+use Rattle.moves.specs.declared.HeldMove.{HeldMove}
 use Rattle.frame.specs.Hex.{unhex}
 use Rattle.frame.specs.MoveFrame.{byteAt, moveOfFrame}
 use Rattle.frame.specs.Reading.{sized, refusalOfFrame, refusalOfLine, moveOfLine}
-use Rattle.verdict.proofs.Listed.{held-move}
+use Rattle.moves.proofs.Listed.{held-move}
 use Rattle.frame.specs.Answers.{reading, readingOfFrame}
-use Rattle.verdict.specs.Readings.{refusedReading, readingUnless}
-use Rattle.verdict.specs.declared.Reading.{Reading}
+use Rattle.moves.specs.Reading.{refusedReading, readingUnless}
+use Rattle.moves.specs.declared.Reading.{Reading}
 use Rattle.frame.proofs.FrameMove.{cornersIn-length}
 use Rattle.frame.proofs.Readable.{Textual, textual-true, textual-no, Sized}
 

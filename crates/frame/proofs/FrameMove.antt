@@ -15,9 +15,9 @@ use Rattle.plane.specs.Near.{Near}
 use Rattle.plane.specs.Edges.{corner}
 use Rattle.plane.specs.declared.Corner.{Corner}
 use Rattle.outline.proofs.Ranges.{counted-yes, bothInRange-yes, placed-yes}
-use Rattle.verdict.specs.Move.{Move}
-use Rattle.verdict.specs.Refusal.{limited}
-use Rattle.verdict.proofs.Accepted.{Accepted, limited-yes}
+use Rattle.moves.specs.Move.{Move}
+use Rattle.moves.specs.Refusal.{limited}
+use Rattle.moves.proofs.Accepted.{Accepted, limited-yes}
 use Rattle.frame.specs.Bytes.{bytes2, number2, twos, signed}
 use Rattle.frame.specs.MoveFrame.{pairBytes, moveFrame, byteAt, numberAt, pairAt, cornersIn, moveOfFrame}
 use Rattle.frame.proofs.ByteLists.{Bytes, byteAt-bound, append-bytes, drop-bytes}

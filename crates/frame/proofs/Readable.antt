@@ -9,7 +9,7 @@ use lib.ListN.{length}
 use borrow.Author.Tests.{ltb-true, leb-true, eqb-true, lt-ltb, le-leb, eq-eqb, not-false}
 use Rattle.outline.specs.Refusal.{firstThatApplies, counted}
 use Rattle.outline.proofs.Reasons.{firstThatApplies-none, orElse-none}
-use Rattle.verdict.specs.Refusal.{refusal}
+use Rattle.moves.specs.Refusal.{refusal}
 use Rattle.frame.specs.Hex.{unhex, digits}
 use Rattle.frame.specs.MoveFrame.{byteAt, moveOfFrame}
 use Rattle.frame.specs.Reading.{textual, sized, refusalOfFrame, refusalOfLine, moveOfLine}

@@ -4,9 +4,9 @@ use mathlib.Core.List.{List}
 use Prim.Native.Nat.{ℕ}
 use native.Mathlib.Omega.{arith}
 use Rattle.outline.proofs.Ranges.{counted-yes}
-use Rattle.verdict.specs.Move.{Move}
-use Rattle.verdict.specs.Refusal.{refusal}
-use Rattle.verdict.proofs.Accepted.{accepted-yes}
+use Rattle.moves.specs.Move.{Move}
+use Rattle.moves.specs.Refusal.{refusal}
+use Rattle.moves.proofs.Accepted.{accepted-yes}
 use Rattle.frame.specs.Hex.{hex, unhex}
 use Rattle.frame.specs.MoveFrame.{moveFrame, moveOfFrame}
 use Rattle.frame.specs.Reading.{refusalOfLine, moveOfLine}

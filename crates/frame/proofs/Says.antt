@@ -22,17 +22,17 @@ use Rattle.span.proofs.Outcomes.{outcome-by, Timed, outcome-timed}
 use Rattle.plane.specs.Edges.{corner}
 use Rattle.plane.specs.Inside.{inside}
 use Rattle.plane.specs.declared.Corner.{Corner}
-use Rattle.verdict.specs.Move.{Move, moveOfLists}
-use Rattle.verdict.specs.HeldMove.{Fit, moveHeld, heldMove}
+use Rattle.moves.specs.Move.{Move, moveOfLists}
+use Rattle.moves.specs.HeldMove.{Fit, moveHeld, heldMove}
 use Rattle.verdict.specs.Span.{spans}
 use Rattle.verdict.specs.Showing.{cornerInside, meetingPair, showingOf, showing}
 use Rattle.verdict.specs.Verdict.{verdictFrom, verdict}
-use Rattle.verdict.specs.Refusal.{refusal, refusalOfLists}
+use Rattle.moves.specs.Refusal.{refusal, refusalOfLists}
 use Rattle.verdict.specs.Answer.{answerUnless, answerOfLists}
-use Rattle.verdict.specs.declared.HeldMove.{HeldMove}
+use Rattle.moves.specs.declared.HeldMove.{HeldMove}
 use Rattle.verdict.specs.declared.Answer.{Answer}
 use Rattle.verdict.specs.declared.Answer.the-variants.{ClearByOne, ClearByTwo, Contact, Refused}
-use Rattle.verdict.proofs.Listed.{held-accepted, lists-accepted}
+use Rattle.moves.proofs.Listed.{held-accepted, lists-accepted}
 use Rattle.verdict.proofs.SideSpans.{spans-length}
 use Rattle.verdict.proofs.FitSpans.{sideCount-is, spans-some, spans-made}
 use Rattle.verdict.proofs.ShowingLaws.{moved-length}

@@ -5,9 +5,9 @@
 use mathlib.Core.Bool.{true, false, cond}
 use mathlib.Core.List.{List, []}
 use Prim.Native.Nat.{ℕ}
-use Rattle.verdict.specs.HeldMove.{heldMove}
-use Rattle.verdict.specs.Readings.{readingUnless}
-use Rattle.verdict.specs.declared.Reading.{Reading}
+use Rattle.moves.specs.HeldMove.{heldMove}
+use Rattle.moves.specs.Reading.{readingUnless}
+use Rattle.moves.specs.declared.Reading.{Reading}
 use Rattle.frame.specs.Hex.{unhex}
 use Rattle.frame.specs.MoveFrame.{moveOfFrame}
 use Rattle.frame.specs.Reading.{textual, refusalOfFrame, refusalOfLine, moveOfLine}

@@ -8,7 +8,7 @@ use lib.IntN.{pos, natAbs}
 use lib.ListN.{length, getD, drop}
 use Rattle.plane.specs.Point.{point}
 use Rattle.plane.specs.declared.Corner.{Corner}
-use Rattle.verdict.specs.Move.{Move}
+use Rattle.moves.specs.Move.{Move}
 use Rattle.frame.specs.Bytes.{bytes2, number2, twos, signed}
 use Rattle.frame.specs.Hex.{hex}
 

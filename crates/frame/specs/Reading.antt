@@ -8,8 +8,8 @@ use Prim.Native.Nat.{ℕ, _+_, _*_, _%_}
 use lib.Dec.{ltb, leb, eqb}
 use lib.ListN.{length}
 use Rattle.outline.specs.Refusal.{firstThatApplies, orElse, counted}
-use Rattle.verdict.specs.Move.{Move, nothing}
-use Rattle.verdict.specs.Refusal.{refusal}
+use Rattle.moves.specs.Move.{Move, nothing}
+use Rattle.moves.specs.Refusal.{refusal}
 use Rattle.verdict.specs.Answer.{answerUnless}
 use Rattle.verdict.specs.declared.Answer.{Answer}
 use Rattle.frame.specs.Hex.{unhex, digits}

@@ -4,13 +4,13 @@ ghost use mathlib.Core.Bool.{true};
 ghost use Prim.Native.Nat.{_+_, _*_, _≤_};
 ghost use lib.ListN.{length};
 ghost use Rattle.outline.specs.Held.{held};
-ghost use Rattle.verdict.specs.HeldMove.{heldMove};
+ghost use Rattle.moves.specs.HeldMove.{heldMove};
 ghost use Rattle.frame.specs.Bytes.{number2, signed};
 ghost use Rattle.frame.specs.MoveFrame.{pairAt, cornersIn, moveOfFrame};
 ghost use Rattle.frame.specs.Reading.{sized};
+use moves::HeldMove;
 use outline::Outline;
 use plane::Corner;
-use verdict::HeldMove;
 
 // The signed number of two bytes.
 fn signed(high: u8, low: u8) -> i64

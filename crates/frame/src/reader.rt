@@ -5,9 +5,9 @@ ghost use lib.ListN.{length};
 ghost use Rattle.frame.specs.Answers.{reading, readingOfFrame};
 use super::fields;
 use super::hex;
-use verdict::Reading;
-use verdict::lists;
-use verdict::refusals;
+use moves::Reading;
+use moves::lists;
+use moves::refusals;
 
 // The move of a frame, or 3 to 9, the first that applies.
 fn read_frame(frame: &[u8]) -> Reading

@@ -16,7 +16,7 @@ use Rattle.verdict.specs.Sides.{sideOf}
 use Rattle.verdict.specs.Span.{span, spans}
 use Rattle.verdict.specs.Showing.{cornerInside, edgesMeet, meetingPair, showingOf, showing}
 use Rattle.verdict.specs.Verdict.{verdict}
-use Rattle.verdict.specs.Refusal.{refusal}
+use Rattle.moves.specs.Refusal.{refusal}
 use Rattle.verdict.specs.Answer.{answerUnless}
 use Rattle.verdict.specs.Cases.{Case, cases}
 use Rattle.frame.specs.Hex.{character, digit, hex, unhex, digits}

@@ -11,7 +11,7 @@ use Rattle.whole.proofs.Fractions.{before-step}
 use Rattle.plane.specs.Motion.{movedAll}
 use Rattle.plane.proofs.Wide.{Wide}
 use Rattle.plane.proofs.Intervals.{shares-no}
-use Rattle.verdict.specs.Move.{Move}
+use Rattle.moves.specs.Move.{Move}
 use Rattle.verdict.specs.Sides.{sideCount, sideOf, sharesAt}
 use Rattle.verdict.specs.Span.{spans}
 use Rattle.span.specs.InSpan.{InSpan}

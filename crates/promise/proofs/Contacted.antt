@@ -17,7 +17,7 @@ use Rattle.plane.specs.Motion.{movedAll}
 use Rattle.plane.specs.declared.Corner.{Corner}
 use Rattle.plane.proofs.Wide.{Wide}
 use Rattle.plane.proofs.Shown.{ShownByCorner}
-use Rattle.verdict.specs.Move.{Move}
+use Rattle.moves.specs.Move.{Move}
 use Rattle.verdict.specs.Sides.{sideCount}
 use Rattle.verdict.specs.Span.{span, spans}
 use Rattle.verdict.specs.Showing.{showing}

@@ -14,7 +14,7 @@ use Rattle.plane.specs.Edges.{edge}
 use Rattle.plane.proofs.Wide.{Wide}
 use Rattle.plane.proofs.Common.{common-shares}
 use Rattle.plane.proofs.CommonAt.{shares-common-at}
-use Rattle.verdict.specs.Move.{Move}
+use Rattle.moves.specs.Move.{Move}
 use Rattle.verdict.specs.Sides.{sideCount, sideOf, sharesAt}
 use Rattle.verdict.specs.Span.{spans}
 use Rattle.span.specs.InSpan.{InSpan}

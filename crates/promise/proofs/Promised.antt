@@ -19,16 +19,16 @@ use Rattle.plane.proofs.Wide.{Wide}
 use Rattle.outline.specs.Sound.{isSound}
 use Rattle.outline.proofs.Soundness.{sound-yes}
 use Rattle.outline.proofs.WideOutline.{sound-wide}
-use Rattle.verdict.specs.Move.{Move, moveOfLists}
+use Rattle.moves.specs.Move.{Move, moveOfLists}
 use Rattle.verdict.specs.Span.{spans}
 use Rattle.verdict.specs.Verdict.{verdictFrom, verdict}
-use Rattle.verdict.specs.Refusal.{refusal, refusalOfLists}
+use Rattle.moves.specs.Refusal.{refusal, refusalOfLists}
 use Rattle.verdict.specs.Answer.{answerUnless, answerOfLists}
 use Rattle.verdict.specs.declared.Evidence.{Evidence}
 use Rattle.verdict.specs.declared.Answer.{Answer}
 use Rattle.verdict.specs.declared.Answer.the-variants.{ClearByOne, ClearByTwo, Contact, Refused}
-use Rattle.verdict.proofs.Accepted.{accepted-yes}
-use Rattle.verdict.proofs.Listed.{lists-accepted}
+use Rattle.moves.proofs.Accepted.{accepted-yes}
+use Rattle.moves.proofs.Listed.{lists-accepted}
 use Rattle.verdict.proofs.SideSpans.{spans-length, spans-good}
 use Rattle.promise.specs.Promise.{InTime, MeetAt, Promise}
 use Rattle.promise.proofs.Clearing.{promise-by-one, promise-by-two}

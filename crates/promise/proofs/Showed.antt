@@ -20,7 +20,7 @@ use Rattle.plane.proofs.Common.{common-flip}
 use Rattle.plane.proofs.Moved.{wide-moved}
 use Rattle.plane.proofs.Shown.{ShownByCorner, ShownByEdges, common-shown}
 use Rattle.plane.proofs.Placing.{corner-placed, edges-placed}
-use Rattle.verdict.specs.Move.{Move}
+use Rattle.moves.specs.Move.{Move}
 use Rattle.verdict.specs.Showing.{cornerInside, edgesMeet, meetingPair, showingOf}
 use Rattle.promise.specs.Promise.{MeetAt, ShownBy}
 use Rattle.verdict.specs.declared.Showing.the-variants.{Edges}

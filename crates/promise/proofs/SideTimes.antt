@@ -15,7 +15,7 @@ use Rattle.whole.proofs.Linear.{lin≤, ≤lin}
 use Rattle.plane.specs.Point.{dot}
 use Rattle.plane.specs.Interval.{low, high}
 use Rattle.plane.proofs.Moved.{shares-moved}
-use Rattle.verdict.specs.Move.{Move}
+use Rattle.moves.specs.Move.{Move}
 use Rattle.verdict.specs.Sides.{sideOf, sharesAt}
 use Rattle.verdict.specs.Span.{span}
 use Rattle.span.specs.InSpan.{InSpan}

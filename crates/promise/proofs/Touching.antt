@@ -24,7 +24,7 @@ use Rattle.plane.proofs.Common.{common-flip}
 use Rattle.plane.proofs.Moved.{wide-moved, low-moved, high-moved}
 use Rattle.plane.proofs.Shown.{ShownByCorner}
 use Rattle.plane.proofs.Touch.{touch-shown}
-use Rattle.verdict.specs.Move.{Move}
+use Rattle.moves.specs.Move.{Move}
 use Rattle.verdict.specs.Sides.{sideCount, sideOf}
 use Rattle.verdict.specs.Span.{span}
 use Rattle.span.specs.Outcome.{begin}

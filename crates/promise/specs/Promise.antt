@@ -15,7 +15,7 @@ use Rattle.plane.specs.Motion.{movedAll}
 use Rattle.plane.specs.Edges.{next}
 use Rattle.plane.specs.Apart.{Apart}
 use Rattle.plane.specs.CommonPoint.{CommonPointAt}
-use Rattle.verdict.specs.Move.{Move}
+use Rattle.moves.specs.Move.{Move}
 use Rattle.verdict.specs.Sides.{sideCount, sideOf}
 use Rattle.verdict.specs.declared.Showing.{Showing}
 use Rattle.verdict.specs.declared.Showing.the-variants.{CornerOfA, CornerOfB, Edges}

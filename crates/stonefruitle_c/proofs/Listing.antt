@@ -13,11 +13,11 @@ use Rattle.plane.specs.Edges.{corner}
 use Rattle.plane.specs.declared.Corner.{Corner}
 use Rattle.outline.specs.Held.{Kept}
 use Rattle.outline.proofs.Testing.{held-kept}
-use Rattle.verdict.specs.Move.{nothing}
-use Rattle.verdict.specs.HeldMove.{heldMove}
-use Rattle.verdict.specs.declared.HeldMove.{HeldMove}
+use Rattle.moves.specs.Move.{nothing}
+use Rattle.moves.specs.HeldMove.{heldMove}
+use Rattle.moves.specs.declared.HeldMove.{HeldMove}
 use Rattle.frame.specs.Reading.{refusalOfLine, moveOfLine}
-use Rattle.verdict.proofs.Listed.{held-accepted}
+use Rattle.moves.proofs.Listed.{held-accepted}
 use Rattle.frame.proofs.RoundTrip.{accepted}
 use Rattle.stonefruitle_c.specs.Numbers.{coordinates, heading, numbers}
 

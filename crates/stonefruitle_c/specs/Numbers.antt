@@ -5,7 +5,7 @@
 use mathlib.Core.List.{List, [], _∷_, _++_}
 use lib.IntN.{ℤ, pos}
 use Rattle.plane.specs.declared.Corner.{Corner}
-use Rattle.verdict.specs.declared.HeldMove.{HeldMove}
+use Rattle.moves.specs.declared.HeldMove.{HeldMove}
 
 unfoldable pub coordinates : List Corner → List ℤ
 coordinates [] = []

@@ -5,8 +5,8 @@ ghost use lib.IntN.{pos};
 ghost use lib.ListN.{getD};
 ghost use Rattle.outline.specs.Held.{Kept};
 ghost use Rattle.stonefruitle_c.specs.Numbers.{coordinates, heading, numbers};
+use moves::HeldMove;
 use outline::Outline;
-use verdict::HeldMove;
 
 // The coordinate at k of an outline's sixteen places.
 fn coordinate(o: Outline, k: usize) -> i64

@@ -5,9 +5,6 @@ use Rattle.whole.proofs.Determination.{determined}
 use Rattle.verdict.proofs.verdict.Reads as verdict
 use Rattle.verdict.proofs.answer_of.Reads as answer-of
 use Rattle.verdict.proofs.answer_of_lists.Reads as answer-of-lists
-use Rattle.verdict.proofs.refusals.refusal.Reads as refusal
-use Rattle.verdict.proofs.lists.refused.Reads as refused
-use Rattle.verdict.proofs.lists.read_lists.Reads as read-lists
 
 pub verdict-determined : (κs : Lfts 0) → Determined (verdict.Learnt κs) (λ r e. r)
 verdict-determined κs = determined (λ a r e p. p)
@@ -17,12 +14,3 @@ answer-of-determined κs = determined (λ a r e p. p)
 
 pub answer-of-lists-determined : (κs : Lfts 2) → Determined (answer-of-lists.Learnt κs) (λ r e. r)
 answer-of-lists-determined κs = determined (λ a r e p. p)
-
-pub refusal-determined : (κs : Lfts 0) → Determined (refusal.Learnt κs) (λ r e. r)
-refusal-determined κs = determined (λ a r e p. p)
-
-pub refused-determined : (κs : Lfts 0) → Determined (refused.Learnt κs) (λ r e. r)
-refused-determined κs = determined (λ a r e p. p)
-
-pub read-lists-determined : (κs : Lfts 2) → Determined (read-lists.Learnt κs) (λ r e. r)
-read-lists-determined κs = determined (λ a r e p. p)

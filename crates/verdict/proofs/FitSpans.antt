@@ -21,10 +21,10 @@ use Rattle.plane.proofs.Sizes.{dot-within, low-within, high-within}
 use Rattle.outline.specs.Held.{Held, cornersHeld}
 use Rattle.outline.specs.declared.Outline.{Outline}
 use Rattle.outline.proofs.Places.{held-length, held-corner, held-edge}
-use Rattle.verdict.specs.HeldMove.{Fit, moveHeld}
+use Rattle.moves.specs.HeldMove.{Fit, moveHeld}
 use Rattle.verdict.specs.Sides.{sideCount, sideOf}
 use Rattle.verdict.specs.Span.{span, spans}
-use Rattle.verdict.specs.declared.HeldMove.{HeldMove}
+use Rattle.moves.specs.declared.HeldMove.{HeldMove}
 use Rattle.verdict.proofs.SideSpans.{spans-length, spans-at, spans-good}
 
 -- ---- an outline that is held

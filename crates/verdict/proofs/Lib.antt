@@ -1,8 +1,6 @@
-pub mod Accepted
-pub mod Refusing
-pub mod Listed
 pub mod SideSpans
 pub mod FitSpans
 pub mod ShowingLaws
+pub mod Answering
 pub mod Worked
 pub mod Determined

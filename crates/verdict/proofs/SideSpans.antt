@@ -18,7 +18,7 @@ use Rattle.plane.specs.Edges.{corner}
 use Rattle.plane.specs.Interval.{low, high}
 use Rattle.plane.specs.declared.Corner.{Corner}
 use Rattle.plane.proofs.Intervals.{low-bound, high-bound}
-use Rattle.verdict.specs.Move.{Move}
+use Rattle.moves.specs.Move.{Move}
 use Rattle.verdict.specs.Sides.{sideCount, sideOf}
 use Rattle.verdict.specs.Span.{span, spans}
 

@@ -10,8 +10,8 @@ use Prim.Native.Nat.{ℕ}
 use lib.Dec.{eqb}
 use lib.IntN.{ℤ}
 use Rattle.plane.specs.declared.Corner.{Corner}
-use Rattle.verdict.specs.Move.{Move, moveOfLists}
-use Rattle.verdict.specs.Refusal.{refusal, refusalOfLists}
+use Rattle.moves.specs.Move.{Move, moveOfLists}
+use Rattle.moves.specs.Refusal.{refusal, refusalOfLists}
 use Rattle.verdict.specs.Verdict.{verdict}
 use Rattle.verdict.specs.declared.Bearing.{Bearing}
 use Rattle.verdict.specs.declared.Bearing.the-variants.{Side, None}

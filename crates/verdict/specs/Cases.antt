@@ -6,7 +6,7 @@ use Rattle.whole.specs.Time.{time}
 use Rattle.plane.specs.Point.{point, origin}
 use Rattle.plane.specs.declared.Corner.{Corner}
 use Rattle.outline.specs.Star.{star}
-use Rattle.verdict.specs.Move.{Move}
+use Rattle.moves.specs.Move.{Move}
 use Rattle.verdict.specs.declared.Bearing.{Bearing}
 use Rattle.verdict.specs.declared.Bearing.the-variants.{Side, None}
 use Rattle.verdict.specs.declared.Showing.{Showing}

@@ -1,10 +1,6 @@
-pub mod Move
-pub mod HeldMove
 pub mod Sides
 pub mod Span
 pub mod Showing
 pub mod Verdict
-pub mod Refusal
 pub mod Answer
-pub mod Readings
 pub mod Cases

@@ -13,7 +13,7 @@ use Rattle.plane.specs.Motion.{movedAll}
 use Rattle.plane.specs.Edges.{corner, next}
 use Rattle.plane.specs.Inside.{inside, meet}
 use Rattle.plane.specs.declared.Corner.{Corner}
-use Rattle.verdict.specs.Move.{Move}
+use Rattle.moves.specs.Move.{Move}
 use Rattle.verdict.specs.declared.Showing.{Showing}
 use Rattle.verdict.specs.declared.Showing.the-variants.{CornerOfA, CornerOfB, Edges}
 

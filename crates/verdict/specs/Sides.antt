@@ -11,7 +11,7 @@ use Rattle.plane.specs.Motion.{movedAll}
 use Rattle.plane.specs.Edges.{edge}
 use Rattle.plane.specs.Interval.{shares}
 use Rattle.plane.specs.declared.Corner.{Corner}
-use Rattle.verdict.specs.Move.{Move}
+use Rattle.moves.specs.Move.{Move}
 
 abbrev pub sideCount : Move → ℕ
 sideCount m = length (m .a) + length (m .b)

@@ -9,7 +9,7 @@ use Rattle.span.specs.Window.{window}
 use Rattle.span.specs.declared.Span.{Span}
 use Rattle.plane.specs.Point.{dot}
 use Rattle.plane.specs.Interval.{low, high}
-use Rattle.verdict.specs.Move.{Move}
+use Rattle.moves.specs.Move.{Move}
 use Rattle.verdict.specs.Sides.{sideCount, sideOf}
 
 -- seen from A, B has moved by s w along the side's direction: the intervals share a value while that is from lo to hi

@@ -8,7 +8,7 @@ use Rattle.span.specs.Outcome.{outcome}
 use Rattle.span.specs.declared.Lead.{Lead}
 use Rattle.span.specs.declared.Outcome.{Outcome}
 use Rattle.span.specs.declared.Outcome.the-variants.{ByOne, ByTwo, FromTo}
-use Rattle.verdict.specs.Move.{Move}
+use Rattle.moves.specs.Move.{Move}
 use Rattle.verdict.specs.Span.{spans}
 use Rattle.verdict.specs.Showing.{showing}
 use Rattle.verdict.specs.declared.Bearing.{Bearing}

@@ -2,36 +2,20 @@
 ghost use mathlib.Core.Path.{_≡_};
 ghost use Rattle.span.specs.Lead.{Comparable};
 ghost use Rattle.span.specs.declared.Outcome.the-variants.{FromTo};
-ghost use Rattle.verdict.specs.HeldMove.{Fit, moveHeld};
+ghost use Rattle.moves.specs.HeldMove.{Fit, moveHeld};
 ghost use Rattle.verdict.specs.Verdict.{bearing, verdictFrom, verdict};
 ghost use Rattle.verdict.specs.Answer.{answerUnless, answerOfLists};
-ghost use Rattle.verdict.specs.Readings.{Readable};
+ghost use Rattle.moves.specs.Reading.{Readable};
 
-pub mod lists; // moves handed in as lists of numbers
-pub mod refusals; // why a move is turned away
 mod spans; // the span of each side, and what all have in common
 mod shows; // what shows a common point
 
-use outline::Outline;
+use moves::HeldMove;
+use moves::Reading;
 use plane::Corner;
 use span::Lead;
 use span::Outcome;
 use whole::Time;
-
-// A move as it is held: both outlines with their velocities, and the time limit.
-pub struct HeldMove {
-    pub a: Outline,
-    pub b: Outline,
-    pub va: Corner,
-    pub vb: Corner,
-    pub limit: i64,
-}
-
-// A move that was asked about: the number of its refusal, 0 for none, and the move, all zeros where it is refused.
-pub struct Reading {
-    pub refusal: u8,
-    pub held: HeldMove,
-}
 
 // The lowest side whose begin is first; none where first is zero.
 pub enum Bearing {
@@ -117,6 +101,6 @@ pub fn answer_of(r: Reading) -> Answer
 pub fn answer_of_lists(a: &[i64], b: &[i64], va: Corner, vb: Corner, limit: i64) -> Answer
     ensures { λ r. ⌜ r ≡ answerOfLists (now (a .entry)) (now (b .entry)) va vb limit ⌝ }
 {
-    let r = lists::read_lists(a, b, va, vb, limit);
+    let r = moves::lists::read_lists(a, b, va, vb, limit);
     answer_of(r)
 }

@@ -2,10 +2,10 @@
 ghost use mathlib.Core.Path.{_≡_};
 ghost use Prim.Native.Nat.{_<_};
 ghost use Rattle.span.specs.Outcome.{outcome};
-ghost use Rattle.verdict.specs.HeldMove.{Fit, moveHeld};
+ghost use Rattle.moves.specs.HeldMove.{Fit, moveHeld};
 ghost use Rattle.verdict.specs.Sides.{sideCount, sideOf};
 ghost use Rattle.verdict.specs.Span.{span, spans};
-use super::HeldMove;
+use moves::HeldMove;
 use outline::Outline;
 use plane::Corner;
 use span::Lead;

@@ -3,9 +3,9 @@ use mathlib.Core.Path.{_≡_, sym, _∙_, ap, subst}
 use native.Mathlib.Omega.{arith}
 use mir.Facts.{toZ-ofZ}
 use borrow.Author.Needs.{needs}
-use Rattle.verdict.specs.Move.{moveOfLists}
-use Rattle.verdict.specs.HeldMove.{moveHeld}
-use Rattle.verdict.specs.Readings.{readingOfLists}
+use Rattle.moves.specs.Move.{moveOfLists}
+use Rattle.moves.specs.HeldMove.{moveHeld}
+use Rattle.moves.specs.Reading.{readingOfLists}
 use Rattle.frame.specs.MoveFrame.{moveFrame, moveLine}
 use Rattle.frame.specs.Framed.{framed, Whole}
 use Rattle.frame.proofs.Pushing.{framed-whole}
@@ -18,7 +18,7 @@ use Rattle.checker.proofs.write_move.Reads as reads
 use Rattle.checker.proofs.write_move.Lts as lts
 use Rattle.frame.proofs.writer.move_frame.Reads as move-frame-reads
 use Rattle.frame.proofs.writer.put_line.Reads as put-line-reads
-use Rattle.verdict.proofs.lists.read_lists.Reads as read-lists-reads
+use Rattle.moves.proofs.lists.read_lists.Reads as read-lists-reads
 
 -- what was read, with the limit as it was handed in
 the-reading : (c : lts.After-read-lists (read-lists-reads.Asked, read-lists-reads.Learnt, move-frame-reads.Asked, move-frame-reads.Learnt, put-line-reads.Asked, put-line-reads.Learnt) reads.Pre reads.Post) → c .read-lists .result ≡ readingOfLists (c .before .before .before .args .a .now) (c .before .before .before .args .b .now) (c .before .before .before .args .va) (c .before .before .before .args .vb) (c .before .before .before .args .limit)

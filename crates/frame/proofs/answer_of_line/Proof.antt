@@ -1,9 +1,10 @@
 -- What was read is answered: the reading of a line is that of its move beside its refusal.
 use mathlib.Core.Path.{sym, _∙_, ap, subst}
-use Rattle.verdict.specs.HeldMove.{moveHeld}
+use Rattle.moves.specs.HeldMove.{moveHeld}
 use Rattle.verdict.specs.Answer.{answerUnless}
-use Rattle.verdict.specs.Readings.{Readable}
-use Rattle.verdict.proofs.Listed.{reading-readable, reading-answer}
+use Rattle.moves.specs.Reading.{Readable}
+use Rattle.moves.proofs.Listed.{reading-readable}
+use Rattle.verdict.proofs.Answering.{reading-answer}
 use borrow.Author.Needs.{needs}
 use Rattle.frame.specs.Reading.{answerOfLine}
 use Rattle.frame.proofs.RoundTrip.{accepted}

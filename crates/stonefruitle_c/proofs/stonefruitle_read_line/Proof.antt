@@ -1,6 +1,6 @@
 use mathlib.Core.Path.{ap}
 use borrow.Author.Needs.{needs}
-use Rattle.verdict.specs.declared.Reading.{Reading}
+use Rattle.moves.specs.declared.Reading.{Reading}
 use Rattle.stonefruitle_c.proofs.stonefruitle_read_line.Statement.{statement}
 use Rattle.stonefruitle_c.proofs.stonefruitle_read_line.Tie as tie
 

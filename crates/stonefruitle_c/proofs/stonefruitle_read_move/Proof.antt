@@ -2,7 +2,7 @@
 use mathlib.Core.Path.{sym, _∙_, ap, subst}
 use borrow.Author.Needs.{needs}
 use Rattle.outline.specs.Held.{Kept}
-use Rattle.verdict.specs.declared.Reading.{Reading}
+use Rattle.moves.specs.declared.Reading.{Reading}
 use Rattle.stonefruitle_c.specs.Numbers.{numbers}
 use Rattle.stonefruitle_c.proofs.Listing.{line-kept}
 use Rattle.stonefruitle_c.proofs.stonefruitle_read_move.Statement.{statement}

@@ -1,10 +1,11 @@
 -- What was read is answered: a move beside its refusal is answered as the two are.
 use mathlib.Core.Path.{sym, _∙_, ap, subst}
 use mir.Facts.{toZ-ofZ}
-use Rattle.verdict.specs.HeldMove.{moveHeld}
+use Rattle.moves.specs.HeldMove.{moveHeld}
 use Rattle.verdict.specs.Answer.{answerUnless, answerOfLists}
-use Rattle.verdict.specs.Readings.{Readable}
-use Rattle.verdict.proofs.Listed.{reading-readable, reading-answer, lists-accepted}
+use Rattle.moves.specs.Reading.{Readable}
+use Rattle.moves.proofs.Listed.{reading-readable, lists-accepted}
+use Rattle.verdict.proofs.Answering.{reading-answer}
 use borrow.Author.Needs.{needs}
 use Rattle.verdict.proofs.answer_of_lists.Statement.{statement}
 use Rattle.verdict.proofs.answer_of_lists.Tie as tie

@@ -3,7 +3,7 @@ use mathlib.Core.Path.{sym, _∙_, ap, subst}
 use lib.IntN.{natAbs}
 use borrow.Author.Needs.{needs}
 use Rattle.span.proofs.Outcomes.{Timed, outcome-timed}
-use Rattle.verdict.specs.HeldMove.{moveHeld}
+use Rattle.moves.specs.HeldMove.{moveHeld}
 use Rattle.verdict.specs.Span.{spans}
 use Rattle.verdict.specs.Verdict.{verdictFrom, verdict}
 use Rattle.verdict.proofs.FitSpans.{spans-some, spans-made}

@@ -3,10 +3,10 @@ use mathlib.Core.Path.{_≡_, sym, _∙_, ap}
 use mathlib.Core.Bool.{true}
 use borrow.Author.Tests.{not-true, not-false}
 use borrow.Author.Needs.{needs}
-use Rattle.verdict.specs.Refusal.{refusal}
+use Rattle.moves.specs.Refusal.{refusal}
 use Rattle.frame.specs.MoveFrame.{moveOfFrame}
 use Rattle.frame.specs.Reading.{sized}
-use Rattle.verdict.specs.Readings.{refusedReading}
+use Rattle.moves.specs.Reading.{refusedReading}
 use Rattle.frame.proofs.Readable.{sized-yes}
 use Rattle.frame.proofs.Answering.{reading-first, reading-size, reading-move, reading-moved, made-counted-a, made-counted-b, made-move, made-padded}
 use Rattle.frame.proofs.reader.read_frame.Statement.{statement}
@@ -15,8 +15,8 @@ use Rattle.frame.proofs.reader.read_frame.Reads as reads
 use Rattle.frame.proofs.reader.read_frame.Lts as lts
 use Rattle.frame.proofs.fields.is_sized.Reads as is-sized-reads
 use Rattle.frame.proofs.fields.move_in.Reads as move-in-reads
-use Rattle.verdict.proofs.lists.refused.Reads as refused-reads
-use Rattle.verdict.proofs.refusals.refusal.Reads as refusal-reads
+use Rattle.moves.proofs.lists.refused.Reads as refused-reads
+use Rattle.moves.proofs.refusals.refusal.Reads as refusal-reads
 
 -- what the branches say
 right-size : (c : lts.Else2 (refused-reads.Asked, refused-reads.Learnt, is-sized-reads.Asked, is-sized-reads.Learnt, move-in-reads.Asked, move-in-reads.Learnt, refusal-reads.Asked, refusal-reads.Learnt) reads.Pre reads.Post) → sized (c .before .before .before .before .before .args .frame .now) ≡ true

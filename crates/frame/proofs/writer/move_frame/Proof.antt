@@ -13,8 +13,8 @@ use mir.Facts.{toZ-ofZ}
 use Rattle.whole.proofs.Linear.{ints}
 use Rattle.outline.specs.Held.{cornersHeld}
 use Rattle.outline.proofs.Places.{held-length}
-use Rattle.verdict.specs.HeldMove.{Fit}
-use Rattle.verdict.specs.declared.HeldMove.{HeldMove}
+use Rattle.moves.specs.HeldMove.{Fit}
+use Rattle.moves.specs.declared.HeldMove.{HeldMove}
 use Rattle.frame.specs.Bytes.{bytes2}
 use Rattle.frame.specs.MoveFrame.{pairBytes, moveFrame}
 use Rattle.frame.specs.Framed.{framed}

@@ -14,9 +14,9 @@ use Rattle.span.specs.declared.Span.the-variants.{Between}
 use Rattle.span.proofs.Windows.{ShortSpan}
 use Rattle.span.proofs.Casts.{limit-within, limit-cast, limit-short}
 use Rattle.span.proofs.Leading.{Leading, leading-start, leading-step, leading-empty, leading-end}
-use Rattle.verdict.specs.HeldMove.{Fit, moveHeld}
+use Rattle.moves.specs.HeldMove.{Fit, moveHeld}
 use Rattle.verdict.specs.Span.{spans}
-use Rattle.verdict.specs.declared.HeldMove.{HeldMove}
+use Rattle.moves.specs.declared.HeldMove.{HeldMove}
 use Rattle.verdict.proofs.SideSpans.{spans-length, spans-at}
 use Rattle.verdict.proofs.FitSpans.{sideCount-is, spans-some, spans-made}
 use Rattle.verdict.proofs.spans.outcome.Statement.{statement}

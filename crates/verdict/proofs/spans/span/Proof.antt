@@ -17,10 +17,10 @@ use Rattle.plane.specs.declared.Corner.{Corner}
 use Rattle.plane.proofs.Sizes.{near-more}
 use Rattle.outline.specs.Held.{cornersHeld}
 use Rattle.outline.specs.Tested.{interval}
-use Rattle.verdict.specs.HeldMove.{Fit, moveHeld}
+use Rattle.moves.specs.HeldMove.{Fit, moveHeld}
 use Rattle.verdict.specs.Sides.{sideCount, sideOf}
 use Rattle.verdict.specs.Span.{span}
-use Rattle.verdict.specs.declared.HeldMove.{HeldMove}
+use Rattle.moves.specs.declared.HeldMove.{HeldMove}
 use Rattle.verdict.proofs.FitSpans.{side-near, low-a-within, low-b-within, high-a-within, high-b-within, speed-a-within, speed-b-within}
 use Rattle.verdict.proofs.spans.span.Statement.{statement}
 use Rattle.verdict.proofs.spans.span.Tie as tie

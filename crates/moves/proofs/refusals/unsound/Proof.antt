@@ -9,8 +9,8 @@ use Rattle.outline.specs.declared.Outline.{Outline}
 use Rattle.outline.proofs.Places.{held-length}
 use Rattle.outline.proofs.Testing.{sound-bad, sound-no-bad}
 use borrow.Author.Needs.{needs}
-use Rattle.verdict.proofs.refusals.unsound.Statement.{statement}
-use Rattle.verdict.proofs.refusals.unsound.Tie as tie
+use Rattle.moves.proofs.refusals.unsound.Statement.{statement}
+use Rattle.moves.proofs.refusals.unsound.Tie as tie
 
 bad : (o : Outline) → Held o → {e : ℕ} → e ≡ badEdge (cornersHeld o) → e < o .count → isSound (cornersHeld o) ≡ false
 bad o h p k = sound-bad (cornersHeld o) (subst₂ _<_ p (sym (held-length o (h .kept))) k)

@@ -11,18 +11,18 @@ use Rattle.outline.specs.Held.{cornersHeld}
 use Rattle.outline.specs.declared.Outline.{Outline}
 use Rattle.outline.proofs.Ranges.{counted-yes}
 use Rattle.outline.proofs.Testing.{padded-kept, padded-held}
-use Rattle.verdict.specs.HeldMove.{moveHeld, heldMove}
-use Rattle.verdict.specs.Refusal.{limited}
-use Rattle.verdict.specs.declared.HeldMove.{HeldMove}
-use Rattle.verdict.proofs.Refusing.{refusal-limit, refusal-speed, refusal-place, refusal-sound}
-use Rattle.verdict.proofs.refusals.refusal.Statement.{statement}
-use Rattle.verdict.proofs.refusals.refusal.Tie as tie
-use Rattle.verdict.proofs.refusals.refusal.Reads as reads
-use Rattle.verdict.proofs.refusals.refusal.Lts as lts
-use Rattle.verdict.proofs.refusals.are_near.Reads as are-near-reads
-use Rattle.verdict.proofs.refusals.are_placed.Reads as are-placed-reads
-use Rattle.verdict.proofs.refusals.is_limited.Reads as is-limited-reads
-use Rattle.verdict.proofs.refusals.unsound.Reads as unsound-reads
+use Rattle.moves.specs.HeldMove.{moveHeld, heldMove}
+use Rattle.moves.specs.Refusal.{limited}
+use Rattle.moves.specs.declared.HeldMove.{HeldMove}
+use Rattle.moves.proofs.Refusing.{refusal-limit, refusal-speed, refusal-place, refusal-sound}
+use Rattle.moves.proofs.refusals.refusal.Statement.{statement}
+use Rattle.moves.proofs.refusals.refusal.Tie as tie
+use Rattle.moves.proofs.refusals.refusal.Reads as reads
+use Rattle.moves.proofs.refusals.refusal.Lts as lts
+use Rattle.moves.proofs.refusals.are_near.Reads as are-near-reads
+use Rattle.moves.proofs.refusals.are_placed.Reads as are-placed-reads
+use Rattle.moves.proofs.refusals.is_limited.Reads as is-limited-reads
+use Rattle.moves.proofs.refusals.unsound.Reads as unsound-reads
 
 -- the count of an outline whose unused places are zero is the length of its corners
 counts : (o : Outline) → o .count ≡ length (cornersHeld o) → counted (o .count) ≡ true → counted (length (cornersHeld o)) ≡ true

@@ -10,10 +10,10 @@ use Prim.Native.Nat.{ℕ}
 use lib.Dec.{eqb}
 use lib.IntN.{ℤ}
 use Rattle.plane.specs.declared.Corner.{Corner}
-use Rattle.verdict.specs.Move.{Move, moveOfLists, nothing}
-use Rattle.verdict.specs.HeldMove.{heldMove, Fit}
-use Rattle.verdict.specs.Refusal.{refusalOfLists}
-use Rattle.verdict.specs.declared.Reading.{Reading}
+use Rattle.moves.specs.Move.{Move, moveOfLists, nothing}
+use Rattle.moves.specs.HeldMove.{heldMove, Fit}
+use Rattle.moves.specs.Refusal.{refusalOfLists}
+use Rattle.moves.specs.declared.Reading.{Reading}
 
 abbrev pub refusedReading : ℕ → Reading
 refusedReading r = record { refusal = r; held = heldMove nothing }

@@ -4,8 +4,8 @@ use borrow.Author.Tests.{not-true, not-false}
 use Rattle.whole.proofs.Flags.{and-false, and-true}
 use Rattle.outline.specs.Refusal.{bothInRange}
 use borrow.Author.Needs.{needs}
-use Rattle.verdict.proofs.refusals.are_near.Statement.{statement}
-use Rattle.verdict.proofs.refusals.are_near.Tie as tie
+use Rattle.moves.proofs.refusals.are_near.Statement.{statement}
+use Rattle.moves.proofs.refusals.are_near.Tie as tie
 
 is-near-requires : tie.Need-is-near-requires
 is-near-requires c κs = search needs

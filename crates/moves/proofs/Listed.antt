@@ -15,14 +15,13 @@ use Rattle.outline.proofs.Reasons.{orElse-none}
 use Rattle.outline.proofs.Ranges.{counted-yes}
 use Rattle.outline.specs.Held.{held}
 use Rattle.outline.proofs.Testing.{wellCounted, wellCounted-yes, held-corners}
-use Rattle.verdict.specs.Move.{Move, moveOfLists}
-use Rattle.verdict.specs.HeldMove.{moveHeld, heldMove, Fit}
-use Rattle.verdict.specs.Refusal.{refusal, refusalOfLists}
-use Rattle.verdict.specs.Answer.{answerUnless}
-use Rattle.verdict.specs.Readings.{refusedReading, readingUnless, readingOfLists, Readable}
-use Rattle.verdict.specs.declared.HeldMove.{HeldMove}
-use Rattle.verdict.proofs.Accepted.{accepted-yes}
-use Rattle.verdict.proofs.Refusing.{fit-yes}
+use Rattle.moves.specs.Move.{Move, moveOfLists}
+use Rattle.moves.specs.HeldMove.{moveHeld, heldMove, Fit}
+use Rattle.moves.specs.Refusal.{refusal, refusalOfLists}
+use Rattle.moves.specs.Reading.{refusedReading, readingUnless, readingOfLists, Readable}
+use Rattle.moves.specs.declared.HeldMove.{HeldMove}
+use Rattle.moves.proofs.Accepted.{accepted-yes}
+use Rattle.moves.proofs.Refusing.{fit-yes}
 
 pub held-move : (m : Move) → length (m .a) ≤ 16 → length (m .b) ≤ 16 → moveHeld (heldMove m) ≡ m
 held-move m p q = λ i. record { a = held-corners (m .a) p i; b = held-corners (m .b) q i; va = m .va; vb = m .vb; limit = m .limit }
@@ -77,14 +76,6 @@ module _ (r : ℕ) (m : Move) (ok : r ≡ 0 → refusal m ≡ 0) where
       go : Dec (r ≡ 0) → Readable (readingUnless r m)
       go (yes z) = λ _. subst (λ x. Fit (x .held)) (sym (reading-none r m z)) (held-accepted m (ok z) .0)
       go (no n) = λ e. absurd (n (sym (ap (λ x. x .refusal) (reading-some r m n)) ∙ e))
-
-  pub reading-answer : answerUnless (readingUnless r m .refusal) (moveHeld (readingUnless r m .held)) ≡ answerUnless r m
-  unfolding answerUnless
-  reading-answer = go (ℕ-discrete r 0)
-    where
-      go : Dec (r ≡ 0) → answerUnless (readingUnless r m .refusal) (moveHeld (readingUnless r m .held)) ≡ answerUnless r m
-      go (yes z) = ap (λ x. answerUnless (x .refusal) (moveHeld (x .held))) (reading-none r m z) ∙ ap (answerUnless 0) (held-accepted m (ok z) .1) ∙ ap (λ n. answerUnless n m) (sym z)
-      go (no n) = ap (λ x. answerUnless (x .refusal) (moveHeld (x .held))) (reading-some r m n) ∙ simp (ne-eqb r 0 n)
 
 pub lists-accepted : (xs ys : List ℤ) (va vb : Corner) (T : ℤ) → refusalOfLists xs ys va vb T ≡ 0 → refusal (moveOfLists xs ys va vb T) ≡ 0
 unfolding refusalOfLists

@@ -7,8 +7,8 @@ use lib.IntN.{pos}
 use lib.Signed.{_≤ℤ_}
 use Rattle.plane.specs.Near.{Near}
 use Rattle.outline.specs.Held.{cornersHeld, held, Held}
-use Rattle.verdict.specs.Move.{Move}
-use Rattle.verdict.specs.declared.HeldMove.{HeldMove}
+use Rattle.moves.specs.Move.{Move}
+use Rattle.moves.specs.declared.HeldMove.{HeldMove}
 
 abbrev pub moveHeld : HeldMove → Move
 moveHeld h = record { a = cornersHeld (h .a); b = cornersHeld (h .b); va = h .va; vb = h .vb; limit = h .limit }

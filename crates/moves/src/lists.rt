@@ -1,6 +1,6 @@
 // Moves handed in as lists of numbers.
 ghost use mathlib.Core.Path.{_≡_};
-ghost use Rattle.verdict.specs.Readings.{refusedReading, readingOfLists};
+ghost use Rattle.moves.specs.Reading.{refusedReading, readingOfLists};
 use super::HeldMove;
 use super::Reading;
 use super::refusals;

@@ -6,8 +6,8 @@ use lib.Signed.{leZ, ltZ}
 use mir.Facts.{toZ-ofZ}
 use Rattle.whole.proofs.Flags.{and-false, and-true}
 use Rattle.whole.proofs.Linear.{ints}
-use Rattle.verdict.proofs.refusals.is_limited.Statement.{statement}
-use Rattle.verdict.proofs.refusals.is_limited.Tie as tie
+use Rattle.moves.proofs.refusals.is_limited.Statement.{statement}
+use Rattle.moves.proofs.refusals.is_limited.Tie as tie
 
 below : (t : ℤ) → ltZ t (pos 0) ≡ true → leZ (pos 0) t ≡ false
 below t e = omega ints

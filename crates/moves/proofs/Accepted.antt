@@ -10,8 +10,8 @@ use borrow.Author.Tests.{leb-true, not-false}
 use Rattle.outline.specs.Sound.{isSound}
 use Rattle.outline.specs.Refusal.{firstThatApplies, counted, bothInRange, placed}
 use Rattle.outline.proofs.Reasons.{firstThatApplies-none}
-use Rattle.verdict.specs.Move.{Move}
-use Rattle.verdict.specs.Refusal.{limited, refusal}
+use Rattle.moves.specs.Move.{Move}
+use Rattle.moves.specs.Refusal.{limited, refusal}
 
 pub record Accepted (m : Move) : Type 0 where
   pub counted-a : counted (length (m .a)) ≡ true

@@ -10,20 +10,20 @@ use mir.Val.{toZ, ofZ}
 use mir.Facts.{toZ-ofZ}
 use Rattle.whole.proofs.Flags.{and-false, and-true}
 use Rattle.outline.proofs.Testing.{wellCounted, wellCounted-is, wellCounted-short}
-use Rattle.verdict.specs.Move.{moveOfLists}
-use Rattle.verdict.specs.HeldMove.{moveHeld}
-use Rattle.verdict.specs.Refusal.{refusal, refusalOfLists}
-use Rattle.verdict.specs.Readings.{refusedReading, readingOfLists}
-use Rattle.verdict.specs.declared.HeldMove.{HeldMove}
-use Rattle.verdict.proofs.Listed.{reading-four, reading-none, reading-some, made-is, made-padded, made-counts, made-refusal}
-use Rattle.verdict.proofs.lists.read_lists.Statement.{statement}
-use Rattle.verdict.proofs.lists.read_lists.Tie as tie
-use Rattle.verdict.proofs.lists.read_lists.Reads as reads
-use Rattle.verdict.proofs.lists.read_lists.Lts as lts
+use Rattle.moves.specs.Move.{moveOfLists}
+use Rattle.moves.specs.HeldMove.{moveHeld}
+use Rattle.moves.specs.Refusal.{refusal, refusalOfLists}
+use Rattle.moves.specs.Reading.{refusedReading, readingOfLists}
+use Rattle.moves.specs.declared.HeldMove.{HeldMove}
+use Rattle.moves.proofs.Listed.{reading-four, reading-none, reading-some, made-is, made-padded, made-counts, made-refusal}
+use Rattle.moves.proofs.lists.read_lists.Statement.{statement}
+use Rattle.moves.proofs.lists.read_lists.Tie as tie
+use Rattle.moves.proofs.lists.read_lists.Reads as reads
+use Rattle.moves.proofs.lists.read_lists.Lts as lts
 use Rattle.outline.proofs.is_counted.Reads as is-counted-reads
 use Rattle.outline.proofs.outline_of.Reads as outline-of-reads
-use Rattle.verdict.proofs.lists.refused.Reads as refused-reads
-use Rattle.verdict.proofs.refusals.refusal.Reads as refusal-reads
+use Rattle.moves.proofs.lists.refused.Reads as refused-reads
+use Rattle.moves.proofs.refusals.refusal.Reads as refusal-reads
 
 -- what the branches say of the lists
 right-a : (c : lts.Else1 (is-counted-reads.Asked, is-counted-reads.Learnt, refused-reads.Asked, refused-reads.Learnt, outline-of-reads.Asked, outline-of-reads.Learnt, refusal-reads.Asked, refusal-reads.Learnt) reads.Pre reads.Post) → wellCounted (c .before .before .args .a .now) ≡ true

@@ -11,11 +11,11 @@ use Rattle.outline.specs.Sound.{isSound}
 use Rattle.outline.specs.Refusal.{firstThatApplies, counted, bothInRange, placed}
 use Rattle.outline.proofs.Ranges.{counted-yes, bothInRange-yes}
 use Rattle.outline.proofs.Testing.{padded-held}
-use Rattle.verdict.specs.Move.{Move}
-use Rattle.verdict.specs.HeldMove.{moveHeld, heldMove, Fit}
-use Rattle.verdict.specs.Refusal.{limited, refusal}
-use Rattle.verdict.specs.declared.HeldMove.{HeldMove}
-use Rattle.verdict.proofs.Accepted.{accepted-yes}
+use Rattle.moves.specs.Move.{Move}
+use Rattle.moves.specs.HeldMove.{moveHeld, heldMove, Fit}
+use Rattle.moves.specs.Refusal.{limited, refusal}
+use Rattle.moves.specs.declared.HeldMove.{HeldMove}
+use Rattle.moves.proofs.Accepted.{accepted-yes}
 
 module _ (m : Move) (ca : counted (length (m .a)) ≡ true) (cb : counted (length (m .b)) ≡ true) where
   pub refusal-limit : limited (m .limit) ≡ false → 5 ≡ refusal m

@@ -11,7 +11,7 @@ use Rattle.plane.specs.declared.Corner.{Corner}
 use Rattle.outline.specs.Sound.{isSound}
 use Rattle.outline.specs.Coordinates.{paired}
 use Rattle.outline.specs.Refusal.{firstThatApplies, orElse, counted, bothInRange, placed}
-use Rattle.verdict.specs.Move.{Move, moveOfLists}
+use Rattle.moves.specs.Move.{Move, moveOfLists}
 
 -- from 0 to 10,000
 abbrev pub limited : ℤ → Bool

@@ -5,8 +5,8 @@ use Rattle.whole.proofs.Flags.{and-false, and-true}
 use Rattle.outline.specs.Refusal.{placed}
 use Rattle.outline.specs.Held.{cornersHeld}
 use borrow.Author.Needs.{needs}
-use Rattle.verdict.proofs.refusals.are_placed.Statement.{statement}
-use Rattle.verdict.proofs.refusals.are_placed.Tie as tie
+use Rattle.moves.proofs.refusals.are_placed.Statement.{statement}
+use Rattle.moves.proofs.refusals.are_placed.Tie as tie
 
 is-placed-requires : tie.Need-is-placed-requires
 is-placed-requires c κs = search needs

@@ -1,0 +1,4 @@
+pub mod Accepted
+pub mod Refusing
+pub mod Listed
+pub mod Determined
