@@ -3,11 +3,11 @@ use mathlib.Core.Path.{_≡_, sym, ap, subst, _∙_}
 use mathlib.Core.Logic.{_≢_}
 use mathlib.Core.List.{List}
 use Prim.Native.Nat.{ℕ, _≤_, _<_}
-use native.Mathlib.Decide.{ℕ-discrete}
 use native.Mathlib.Omega.{arith}
 use lib.IntN.{ℤ}
 use lib.ListN.{length}
 use borrow.Author.Tests.{lt-ltb, le-ltb, eq-eqb, ne-eqb}
+use Rattle.whole.specs.Padded.{over}
 use Rattle.plane.specs.declared.Corner.{Corner}
 use Rattle.outline.proofs.Ranges.{counted-yes}
 use Rattle.moves.specs.Move.{moveOfLists}
@@ -17,11 +17,11 @@ use Rattle.moves.specs.Reading.{readingOfLists}
 use Rattle.verdict.specs.declared.Answer.{Answer}
 use Rattle.moves.specs.declared.Reading.{Reading}
 use Rattle.moves.proofs.Accepted.{accepted-yes}
-use Rattle.moves.proofs.Listed.{held-accepted, reading-none, reading-some, lists-accepted}
-use Rattle.frame.specs.MoveFrame.{moveFrame, moveLine}
+use Rattle.moves.proofs.Listed.{held-accepted, reading-none, reading-refusal, lists-accepted}
+use Rattle.moveline.specs.MoveFrame.{moveFrame, moveLine}
 use Rattle.frame.specs.AnswerFrame.{answerLine}
-use Rattle.frame.proofs.FrameMove.{moveFrame-length}
-use Rattle.checker.specs.Entries.{written, over, refusalIn, spoken, spokenOut, writtenMove, writtenMoveOut}
+use Rattle.moveline.proofs.FrameMove.{moveFrame-length}
+use Rattle.checker.specs.Entries.{written, refusalIn, spoken, spokenOut, writtenMove, writtenMoveOut}
 
 -- ---- an answer
 module _ (r : Answer) (out : List ℕ) where
@@ -52,11 +52,7 @@ module _ (xs ys : List ℤ) (va vb : Corner) (T : ℤ) where
 
   module _ (r : Reading) (is : r ≡ readingOfLists xs ys va vb T) where
     pub read-refusal : r .refusal ≡ refusalOfLists xs ys va vb T
-    read-refusal = ap (λ x. x .refusal) is ∙ go (ℕ-discrete (refusalOfLists xs ys va vb T) 0)
-      where
-        go : Dec (refusalOfLists xs ys va vb T ≡ 0) → readingOfLists xs ys va vb T .refusal ≡ refusalOfLists xs ys va vb T
-        go (yes e) = ap (λ x. x .refusal) (reading-none _ (moveOfLists xs ys va vb T) e) ∙ sym e
-        go (no n) = ap (λ x. x .refusal) (reading-some _ (moveOfLists xs ys va vb T) n)
+    read-refusal = ap (λ x. x .refusal) is ∙ reading-refusal (refusalOfLists xs ys va vb T) (moveOfLists xs ys va vb T)
 
     module _ (none : r .refusal ≡ 0) where
       lists-none : refusalOfLists xs ys va vb T ≡ 0

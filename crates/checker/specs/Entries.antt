@@ -5,26 +5,23 @@
 --   writtenMove .. room                  for a move line: refusal 1 under 283, else the lists' refusal, else the line's length
 --   writtenMoveOut .. out                the lent bytes afterwards
 use mathlib.Core.Bool.{cond}
-use mathlib.Core.List.{List, _++_}
+use mathlib.Core.List.{List}
 use Prim.Native.Nat.{ℕ}
 use lib.Dec.{ltb, eqb}
 use lib.IntN.{ℤ}
-use lib.ListN.{length, drop}
+use lib.ListN.{length}
+use Rattle.whole.specs.Padded.{over}
 use Rattle.plane.specs.declared.Corner.{Corner}
 use Rattle.moves.specs.Move.{moveOfLists}
 use Rattle.moves.specs.Refusal.{refusalOfLists}
 use Rattle.verdict.specs.declared.Answer.{Answer}
 use Rattle.verdict.specs.declared.Answer.the-variants.{ClearByOne, ClearByTwo, Contact, Refused}
-use Rattle.frame.specs.MoveFrame.{moveLine}
+use Rattle.moveline.specs.MoveFrame.{moveLine}
 use Rattle.frame.specs.AnswerFrame.{answerLine}
 use Rattle.checker.specs.declared.Written.{Written}
 
 abbrev pub written : ℕ → ℕ → Written
 written r n = record { refusal = r; bytes = n }
-
--- the line l over the first bytes of out
-abbrev pub over : List ℕ → List ℕ → List ℕ
-over l out = l ++ drop (length l) out
 
 abbrev pub refusalIn : Answer → ℕ
 refusalIn (ClearByOne k) = 0

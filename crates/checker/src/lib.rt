@@ -2,8 +2,8 @@
 ghost use mathlib.Core.Path.{_≡_};
 ghost use lib.ListN.{length};
 ghost use Rattle.verdict.specs.Answer.{answerOfLists};
-ghost use Rattle.frame.specs.Answers.{reading};
-ghost use Rattle.frame.specs.Reading.{answerOfLine};
+ghost use Rattle.moveline.specs.Reading.{readingOfLine};
+ghost use Rattle.frame.specs.AnswerOfLine.{answerOfLine};
 ghost use Rattle.checker.specs.Entries.{refusalIn, spoken, spokenOut, writtenMove, writtenMoveOut};
 ghost use Rattle.frame.specs.Sayable.{Sayable};
 use moves::Reading;
@@ -95,8 +95,8 @@ pub fn write_move(
         };
     }
     let m = r.held;
-    let f = frame::writer::move_frame(m);
-    let n = frame::writer::put_line(out, f);
+    let f = moveline::writer::move_frame(m);
+    let n = hex::text::put_line(out, f);
     Written {
         refusal: 0,
         bytes: n,
@@ -105,7 +105,7 @@ pub fn write_move(
 
 // The move of a line, which stands without its 0a, or its refusal, 2 to 9, with a move of zeros.
 pub fn read_line(line: &[u8]) -> Reading
-    ensures { λ r. ⌜ r ≡ reading (now (line .entry)) ⌝ }
+    ensures { λ r. ⌜ r ≡ readingOfLine (now (line .entry)) ⌝ }
 {
-    frame::reader::read(line)
+    moveline::reader::read(line)
 }

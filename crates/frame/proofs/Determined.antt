@@ -5,25 +5,13 @@ use contract.Lifetimes.{Lfts}
 use denote.Ref.{now}
 use Rattle.whole.specs.Determined.{Determined}
 use Rattle.whole.proofs.Determination.{determined, both}
-use Rattle.frame.proofs.reader.read.Reads as read
-use Rattle.frame.proofs.writer.move_frame.Reads as move-frame
 use Rattle.frame.proofs.writer.answer_frame.Reads as answer-frame
-use Rattle.frame.proofs.writer.put_line.Reads as put-line
 use Rattle.frame.proofs.answer_of_line.Reads as answer-of-line
 use Rattle.frame.proofs.put_answer.Reads as put-answer
 use Rattle.frame.proofs.put_answer_of_line.Reads as put-answer-of-line
 
-pub read-determined : (κs : Lfts 1) → Determined (read.Learnt κs) (λ r e. r)
-read-determined κs = determined (λ a r e p. p)
-
-pub move-frame-determined : (κs : Lfts 0) → Determined (move-frame.Learnt κs) (λ r e. r)
-move-frame-determined κs = determined (λ a r e p. p)
-
 pub answer-frame-determined : (κs : Lfts 0) → Determined (answer-frame.Learnt κs) (λ r e. r)
 answer-frame-determined κs = determined (λ a r e p. p)
-
-pub put-line-determined : (κs : Lfts 1) → Determined {Y = ℕ × List ℕ} (put-line.Learnt κs) (λ r e. (r, now (e .0)))
-put-line-determined κs = determined (λ a r e p. both (p .0) (p .1))
 
 pub answer-of-line-determined : (κs : Lfts 1) → Determined (answer-of-line.Learnt κs) (λ r e. r)
 answer-of-line-determined κs = determined (λ a r e p. p)

@@ -1,14 +1,3 @@
-pub mod ByteLists
-pub mod NumberBytes
-pub mod HexText
-pub mod FrameMove
-pub mod Readable
-pub mod RoundTrip
-pub mod Decoding
-pub mod Words
-pub mod Parts
-pub mod Answering
-pub mod Pushing
-pub mod Storing
+pub mod AnswerBytes
 pub mod Says
 pub mod Determined

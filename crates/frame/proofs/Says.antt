@@ -1,7 +1,7 @@
 -- Every answer fits its frame: what is named is a side, of which there are at most 32, or a corner or an edge, of which an outline has at most 16, and the times are ends of spans, which are short.
 use mathlib.Core.Path.{_≡_, subst}
 use mathlib.Core.Bool.{Bool}
-use mathlib.Core.List.{List, flatMap}
+use mathlib.Core.List.{List}
 use Prim.Native.Nat.{ℕ, _+_, _*_, _/_, _%_, _≤_, _<_}
 use native.Mathlib.Nat.{div-lt-iff-lt-mul, mod-lt}
 use native.Mathlib.Omega.{arith}
@@ -30,17 +30,14 @@ use Rattle.verdict.specs.Verdict.{verdictFrom, verdict}
 use Rattle.moves.specs.Refusal.{refusal, refusalOfLists}
 use Rattle.verdict.specs.Answer.{answerUnless, answerOfLists}
 use Rattle.moves.specs.declared.HeldMove.{HeldMove}
-use Rattle.verdict.specs.declared.Answer.{Answer}
-use Rattle.verdict.specs.declared.Answer.the-variants.{ClearByOne, ClearByTwo, Contact, Refused}
 use Rattle.moves.proofs.Listed.{held-accepted, lists-accepted}
 use Rattle.verdict.proofs.SideSpans.{spans-length}
 use Rattle.verdict.proofs.FitSpans.{sideCount-is, spans-some, spans-made}
 use Rattle.verdict.proofs.ShowingLaws.{moved-length}
-use Rattle.frame.specs.AnswerFrame.{answerFrame}
-use Rattle.frame.specs.Reading.{refusalOfLine, moveOfLine, answerOfLine}
+use Rattle.moveline.specs.Reading.{refusalOfLine, moveOfLine}
+use Rattle.frame.specs.AnswerOfLine.{answerOfLine}
 use Rattle.frame.specs.Sayable.{Sayable, SayableBearing, SayableShowing}
-use Rattle.frame.proofs.Pushing.{three-numbers}
-use Rattle.frame.proofs.RoundTrip.{accepted}
+use Rattle.moveline.proofs.RoundTrip.{accepted}
 
 -- ---- the showing
 inside-few : (A B : List Corner) → length A ≤ 16 → cornerInside A B < 256
@@ -105,11 +102,3 @@ sayable-line l = sayable-unless (refusalOfLine l) (moveOfLine l) (accepted l)
 pub sayable-lists : (xs ys : List ℤ) (va vb : Corner) (T : ℤ) → Sayable (answerOfLists xs ys va vb T)
 unfolding answerOfLists
 sayable-lists xs ys va vb T = sayable-unless (refusalOfLists xs ys va vb T) (moveOfLists xs ys va vb T) (lists-accepted xs ys va vb T)
-
--- ---- the frame of an answer
-pub length-answer : (r : Answer) → length (answerFrame r) ≤ 22
-unfolding answerFrame flatMap
-length-answer (ClearByOne k) = omega arith
-length-answer (ClearByTwo i j) = omega arith
-length-answer (Contact e) = omega (arith, three-numbers (e .showing))
-length-answer (Refused r) = omega arith

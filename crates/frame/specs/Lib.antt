@@ -1,9 +1,3 @@
-pub mod Bytes
-pub mod Hex
-pub mod MoveFrame
 pub mod AnswerFrame
-pub mod Over
-pub mod Reading
-pub mod Framed
-pub mod Answers
+pub mod AnswerOfLine
 pub mod Sayable

@@ -5,7 +5,7 @@ use Prim.Native.Nat.{ℕ, _+_, _-_, _≤_, _<_, min}
 use native.Mathlib.Omega.{arith}
 use lib.ListN.{length, take, getD, set, replicate, length-take, length-append}
 use lib.Seq.{take-append-seam, take-take, getD-take, getD-append-add}
-use Rattle.whole.proofs.Filled.{filled, filled-all, filled-step}
+use Rattle.whole.proofs.Padding.{filled, filled-all, filled-step}
 use Rattle.lines.specs.declared.Begun.{Begun}
 use Rattle.lines.specs.Stream.{kept}
 use Rattle.lines.specs.Begun.{begunWith, begunBytes, Holds}

@@ -10,8 +10,8 @@ use lib.Seq.{take-all, take-add, take-at, drop-at, drop-drop}
 use borrow.Author.Tests.{eqb-true}
 use borrow.Rule.Slice.PartMut.{putMid}
 use Rattle.frame.specs.AnswerFrame.{answerLine}
-use Rattle.frame.specs.Reading.{answerOfLine}
-use Rattle.frame.specs.Over.{over}
+use Rattle.frame.specs.AnswerOfLine.{answerOfLine}
+use Rattle.whole.specs.Padded.{over}
 use Rattle.lines.specs.Taking.{lineOf, lineAt, nextAt}
 use Rattle.lines.specs.Output.{answerTo}
 use Rattle.lines.specs.Lines.{finished, unfinished}

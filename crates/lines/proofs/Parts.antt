@@ -14,7 +14,8 @@ use Rattle.outline.specs.Refusal.{firstThatApplies}
 use Rattle.verdict.specs.Answer.{answerUnless}
 use Rattle.verdict.specs.declared.Answer.the-variants.{Refused}
 use Rattle.frame.specs.AnswerFrame.{answerLine}
-use Rattle.frame.specs.Reading.{refusalOfLine, answerOfLine}
+use Rattle.moveline.specs.Reading.{refusalOfLine}
+use Rattle.frame.specs.AnswerOfLine.{answerOfLine}
 use Rattle.lines.specs.Lines.{finished, unfinished, lastLine, linesOf}
 use Rattle.lines.specs.Output.{answerTo, output}
 use Rattle.lines.specs.Stream.{answersTo, lastAnswer, kept}

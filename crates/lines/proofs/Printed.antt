@@ -19,11 +19,12 @@ use Rattle.verdict.specs.Verdict.{verdict}
 use Rattle.moves.specs.Refusal.{refusal}
 use Rattle.verdict.specs.Answer.{answerUnless}
 use Rattle.verdict.specs.Cases.{Case, cases}
-use Rattle.frame.specs.Hex.{character, digit, hex, unhex, digits}
-use Rattle.frame.specs.MoveFrame.{moveFrame, moveLine, cornersIn, moveOfFrame}
+use Rattle.hex.specs.Hex.{character, digit, hex, unhex, digits}
+use Rattle.moveline.specs.MoveFrame.{moveFrame, moveLine, cornersIn, moveOfFrame}
 use Rattle.frame.specs.AnswerFrame.{answerFrame, answerLine}
-use Rattle.frame.specs.Reading.{refusalOfFrame, refusalOfLine, moveOfLine, answerOfLine}
-use Rattle.lines.specs.Lines.{finished, unfinished, linesOf}
+use Rattle.moveline.specs.Reading.{refusalOfFrame, refusalOfLine, moveOfLine}
+use Rattle.frame.specs.AnswerOfLine.{answerOfLine}
+use Rattle.lines.specs.Lines.{linesFrom}
 use Rattle.lines.specs.Output.{output}
 use Rattle.lines.specs.Examples.{Example, text, examples}
 

@@ -11,13 +11,14 @@ use borrow.Author.Tests.{ne-eqb}
 use Rattle.verdict.specs.Answer.{answerUnless}
 use Rattle.verdict.specs.declared.Answer.{Answer}
 use Rattle.verdict.specs.declared.Answer.the-variants.{Refused}
-use Rattle.frame.specs.Hex.{hex}
-use Rattle.frame.specs.MoveFrame.{moveFrame}
+use Rattle.hex.specs.Hex.{hex}
+use Rattle.moveline.specs.MoveFrame.{moveFrame}
 use Rattle.frame.specs.AnswerFrame.{answerFrame, answerLine}
-use Rattle.frame.specs.Reading.{refusalOfLine, moveOfLine, answerOfLine}
-use Rattle.frame.proofs.HexText.{hex-length}
-use Rattle.frame.proofs.FrameMove.{moveFrame-length}
-use Rattle.frame.proofs.RoundTrip.{written-read}
+use Rattle.moveline.specs.Reading.{refusalOfLine, moveOfLine}
+use Rattle.frame.specs.AnswerOfLine.{answerOfLine}
+use Rattle.hex.proofs.HexText.{hex-length}
+use Rattle.moveline.proofs.FrameMove.{moveFrame-length}
+use Rattle.moveline.proofs.RoundTrip.{written-read}
 use Rattle.frame.proofs.Says.{length-answer}
 use Rattle.lines.specs.Lines.{finished}
 use Rattle.lines.specs.Output.{answerTo}

@@ -2,7 +2,7 @@
 --   text n v     the n hexadecimal digits of the number v, the highest first
 use mathlib.Core.List.{List, [], _∷_, _++_}
 use Prim.Native.Nat.{ℕ, zero, suc, _/_, _%_}
-use Rattle.frame.specs.Hex.{character}
+use Rattle.hex.specs.Hex.{character}
 
 unfoldable pub text : ℕ → ℕ → List ℕ
 text zero v = []

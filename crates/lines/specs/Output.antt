@@ -4,7 +4,7 @@
 use mathlib.Core.List.{List, flatMap}
 use Prim.Native.Nat.{ℕ}
 use Rattle.frame.specs.AnswerFrame.{answerLine}
-use Rattle.frame.specs.Reading.{answerOfLine}
+use Rattle.frame.specs.AnswerOfLine.{answerOfLine}
 use Rattle.lines.specs.Lines.{linesOf}
 
 abbrev pub answerTo : List ℕ → List ℕ

@@ -3,7 +3,7 @@ ghost use mathlib.Core.Path.{_≡_};
 ghost use mathlib.Core.List.{[], _++_};
 ghost use Prim.Native.Nat.{_≤_};
 ghost use lib.ListN.{length};
-ghost use Rattle.frame.specs.Over.{over};
+ghost use Rattle.whole.specs.Padded.{over};
 ghost use Rattle.lines.specs.Output.{answerTo};
 ghost use Rattle.lines.specs.Stream.{answersTo, kept, lastAnswer};
 ghost use Rattle.lines.specs.Begun.{begunWith, begunBytes, Holds};

@@ -8,16 +8,17 @@ use native.Mathlib.Omega.{arith}
 use lib.IntN.{ℤ}
 use lib.ListN.{length}
 use borrow.Author.Tests.{eq-eqb, ne-eqb}
+use Rattle.whole.proofs.Padding.{made-again}
 use Rattle.plane.specs.declared.Corner.{Corner}
 use Rattle.outline.specs.Coordinates.{cornersOf, paired}
-use Rattle.outline.specs.Refusal.{firstThatApplies, orElse, counted}
-use Rattle.outline.proofs.Reasons.{orElse-none}
+use Rattle.outline.specs.Refusal.{firstThatApplies, counted}
+use Rattle.outline.proofs.Reasons.{firstThatApplies-rest}
 use Rattle.outline.proofs.Ranges.{counted-yes}
 use Rattle.outline.specs.Held.{held}
 use Rattle.outline.proofs.Testing.{wellCounted, wellCounted-yes, held-corners}
 use Rattle.moves.specs.Move.{Move, moveOfLists}
 use Rattle.moves.specs.HeldMove.{moveHeld, heldMove, Fit}
-use Rattle.moves.specs.Refusal.{refusal, refusalOfLists}
+use Rattle.moves.specs.Refusal.{reasons, refusal, refusalOfLists}
 use Rattle.moves.specs.Reading.{refusedReading, readingUnless, readingOfLists, Readable}
 use Rattle.moves.specs.declared.HeldMove.{HeldMove}
 use Rattle.moves.proofs.Accepted.{accepted-yes}
@@ -35,8 +36,15 @@ module _ (r : ℕ) (m : Move) where
   unfolding readingUnless
   reading-some e = simp (ne-eqb r 0 e)
 
+  pub reading-refusal : readingUnless r m .refusal ≡ r
+  reading-refusal = go (ℕ-discrete r 0)
+    where
+      go : Dec (r ≡ 0) → readingUnless r m .refusal ≡ r
+      go (yes z) = ap (λ x. x .refusal) (reading-none z) ∙ sym z
+      go (no n) = ap (λ x. x .refusal) (reading-some n)
+
 -- p and q: the lists are paired; c and d: their counts are right
-four : (p c q d : Bool) (rest : ℕ) → ((p && c) && (q && d)) ≡ false → orElse (cond (not (p && q)) 4 0) (cond (not (c && d)) 4 rest) ≡ 4
+four : (p c q d : Bool) (rest : ℕ) → ((p && c) && (q && d)) ≡ false → cond (not (p && q)) 4 (cond (not (c && d)) 4 rest) ≡ 4
 four true true true true rest e = absurd (false≢true (sym e))
 four true true true false rest e = refl
 four true true false d rest e = refl
@@ -55,7 +63,7 @@ module _ (xs ys : List ℤ) (va vb : Corner) (T : ℤ) where
       reading-some (refusalOfLists xs ys va vb T) (moveOfLists xs ys va vb T) (λ z. omega arith) ∙ ap refusedReading f
 
   lists-move : wellCounted xs ≡ true → wellCounted ys ≡ true → refusalOfLists xs ys va vb T ≡ refusal (moveOfLists xs ys va vb T)
-  unfolding refusalOfLists firstThatApplies
+  unfolding refusalOfLists refusal firstThatApplies
   lists-move e f =
       let p = and-eq-true-iff (paired xs) (counted (length (cornersOf xs))) .0 e in
       let q = and-eq-true-iff (paired ys) (counted (length (cornersOf ys))) .0 f in
@@ -78,19 +86,22 @@ module _ (r : ℕ) (m : Move) (ok : r ≡ 0 → refusal m ≡ 0) where
       go (no n) = λ e. absurd (n (sym (ap (λ x. x .refusal) (reading-some r m n)) ∙ e))
 
 pub lists-accepted : (xs ys : List ℤ) (va vb : Corner) (T : ℤ) → refusalOfLists xs ys va vb T ≡ 0 → refusal (moveOfLists xs ys va vb T) ≡ 0
-unfolding refusalOfLists
-lists-accepted xs ys va vb T e = orElse-none (firstThatApplies ((4, not (paired xs && paired ys)) ∷ [])) (refusal (moveOfLists xs ys va vb T)) e .1
+unfolding refusalOfLists refusal
+lists-accepted xs ys va vb T e = firstThatApplies-rest (4, not (paired xs && paired ys)) (reasons (moveOfLists xs ys va vb T)) (omega arith) e .1
 
 -- ---- a held move whose outlines were made from the lists xs and ys
 module _ (xs ys : List ℤ) (wa : wellCounted xs ≡ true) (wb : wellCounted ys ≡ true) (h : HeldMove) (ia : h .a ≡ held (cornersOf xs)) (ib : h .b ≡ held (cornersOf ys)) where
   pub made-is : h ≡ heldMove (moveOfLists xs ys (h .va) (h .vb) (h .limit))
   made-is = λ i. record { a = ia i; b = ib i; va = h .va; vb = h .vb; limit = h .limit }
 
+  back : moveHeld (heldMove (moveOfLists xs ys (h .va) (h .vb) (h .limit))) ≡ moveOfLists xs ys (h .va) (h .vb) (h .limit)
+  back = held-move (moveOfLists xs ys (h .va) (h .vb) (h .limit)) (wellCounted-yes xs wa .2) (wellCounted-yes ys wb .2)
+
   pub made-move : moveHeld h ≡ moveOfLists xs ys (h .va) (h .vb) (h .limit)
-  made-move = ap moveHeld made-is ∙ held-move (moveOfLists xs ys (h .va) (h .vb) (h .limit)) (wellCounted-yes xs wa .2) (wellCounted-yes ys wb .2)
+  made-move = ap moveHeld made-is ∙ back
 
   pub made-padded : h ≡ heldMove (moveHeld h)
-  made-padded = made-is ∙ ap heldMove (sym made-move)
+  made-padded = made-again heldMove moveHeld (moveOfLists xs ys (h .va) (h .vb) (h .limit)) h back made-is
 
   pub made-counts : (counted (h .a .count) ≡ true) × (counted (h .b .count) ≡ true)
   made-counts = (counts xs wa (h .a .count) (ap (λ o. o .count) ia), counts ys wb (h .b .count) (ap (λ o. o .count) ib))

@@ -2,11 +2,9 @@
 use mathlib.Core.Path.{_≡_, refl}
 use mathlib.Core.Bool.{Bool, true, false, cond}
 use mathlib.Core.List.{List, [], _∷_}
-use Prim.Native.Nat.{ℕ, _<_}
+use Prim.Native.Nat.{_<_}
 use native.Mathlib.Omega.{arith}
-use lib.Dec.{eqb}
-use borrow.Author.Tests.{eqb-true, eqb-false}
-use Rattle.outline.specs.Refusal.{Reason, firstThatApplies, orElse}
+use Rattle.outline.specs.Refusal.{Reason, firstThatApplies}
 
 -- each number is above 0
 abbrev pub Numbered : List Reason → Type 0
@@ -18,18 +16,17 @@ abbrev pub None : List Reason → Type 0
 None [] = Unit {0}
 None (r ∷ rs) = (r .1 ≡ false) × None rs
 
-pub firstThatApplies-none : (rs : List Reason) → Numbered rs → firstThatApplies rs ≡ 0 → None rs
+-- the first reason does not apply, and none of the others
+pub firstThatApplies-rest : (r : Reason) (rs : List Reason) → 0 < r .0 → firstThatApplies (r ∷ rs) ≡ 0 → (r .1 ≡ false) × (firstThatApplies rs ≡ 0)
 unfolding firstThatApplies
-firstThatApplies-none [] n e = tt
-firstThatApplies-none (r ∷ rs) n e = go (r .1) refl (firstThatApplies-none rs (n .1)) e
+firstThatApplies-rest r rs n e = go (r .1) refl e
   where
-    go : (t : Bool) → r .1 ≡ t → (firstThatApplies rs ≡ 0 → None rs) → cond t (r .0) (firstThatApplies rs) ≡ 0 → (r .1 ≡ false) × None rs
-    go true p rest e = absurd (omega (arith, n .0))
-    go false p rest e = (p, rest e)
+    go : (t : Bool) → r .1 ≡ t → cond t (r .0) (firstThatApplies rs) ≡ 0 → (r .1 ≡ false) × (firstThatApplies rs ≡ 0)
+    go true p e = absurd (omega (arith, n))
+    go false p e = (p, e)
 
-pub orElse-none : (r s : ℕ) → orElse r s ≡ 0 → (r ≡ 0) × (s ≡ 0)
-orElse-none r s e = go (eqb r 0) refl e
-  where
-    go : (t : Bool) → eqb r 0 ≡ t → cond t s r ≡ 0 → (r ≡ 0) × (s ≡ 0)
-    go true p e = (eqb-true r 0 p, e)
-    go false p e = absurd (eqb-false r 0 p e)
+pub firstThatApplies-none : (rs : List Reason) → Numbered rs → firstThatApplies rs ≡ 0 → None rs
+firstThatApplies-none [] n e = tt
+firstThatApplies-none (r ∷ rs) n e =
+    let f = firstThatApplies-rest r rs (n .0) e in
+    (f .0, firstThatApplies-none rs (n .1) (f .1))

@@ -2,16 +2,16 @@
 use mathlib.Core.Path.{_≡_, refl, sym, _∙_, ap, subst}
 use mathlib.Core.Bool.{Bool, true, false, not, _&&_, and-eq-true-iff}
 use mathlib.Core.List.{List}
-use Prim.Native.Nat.{ℕ, zero, suc, _+_, _-_, _/_, _%_, _≤_, _<_}
+use Prim.Native.Nat.{ℕ, _/_, _%_, _≤_, _<_}
 use native.Mathlib.Decide.{decLt}
 use native.Mathlib.Omega.{arith}
 use lib.Dec.{eqb, leb}
 use lib.IntN.{ℤ}
-use lib.ListN.{length, replicate, length-append, length-replicate, List·getD-append}
-use lib.Seq.{take-append-seam, getD-append-add}
+use lib.ListN.{length}
 use borrow.Author.Tests.{eq-eqb, ne-eqb, eqb-true, le-leb}
 use Rattle.whole.specs.Lowest.{every}
 use Rattle.whole.proofs.Indices.{lowest-bound}
+use Rattle.whole.proofs.Padding.{made-again, padded-take, padded-length, padded-at, padded-past}
 use Rattle.plane.specs.Point.{origin}
 use Rattle.plane.specs.Near.{Near}
 use Rattle.plane.specs.Edges.{corner}
@@ -81,27 +81,20 @@ module _ (A : List Corner) where
 near-origin : Near 10000 origin
 near-origin = record { near-x = record { le = omega arith }; near-y = record { le = omega arith } }
 
-zeros-at : (k i : ℕ) → corner (replicate k origin) i ≡ origin
-zeros-at zero i = refl
-zeros-at (suc k) zero = refl
-zeros-at (suc k) (suc i) = zeros-at k i
-
 module _ (A : List Corner) (h : length A ≤ 16) where
   pub held-corners : cornersHeld (held A) ≡ A
-  held-corners = take-append-seam A (replicate (16 - length A) origin)
+  held-corners = padded-take 16 origin A
 
   pub held-kept : Kept (held A)
-  held-kept = record { places = omega (arith, length-append A (replicate (16 - length A) origin), length-replicate (16 - length A) origin); count = h }
+  held-kept = record { places = padded-length 16 origin A h; count = h }
 
   -- the places past the last corner are zero, so near too
   pub held-held : placed A ≡ true → Held (held A)
   held-held p = record { kept = held-kept; near = λ i. near i (decLt i (length A)) }
     where
       near : (i : ℕ) → Dec (i < length A) → Near 10000 (corner (held A .corners) i)
-      near i (yes k) = subst (Near 10000) (sym (List·getD-append A (replicate (16 - length A) origin) origin i k)) (placed-yes A p i k)
-      near i (no k) =
-          let past : length A + (i - length A) ≡ i = omega arith in
-          subst (Near 10000) (sym (ap (corner (held A .corners)) (sym past) ∙ getD-append-add A (replicate (16 - length A) origin) (i - length A) origin ∙ zeros-at (16 - length A) (i - length A))) near-origin
+      near i (yes k) = subst (Near 10000) (sym (padded-at 16 origin A i k)) (placed-yes A p i k)
+      near i (no k) = subst (Near 10000) (sym (padded-past 16 origin A i (omega arith))) near-origin
 
 -- ---- an outline whose unused places are zero
 module _ (o : Outline) (is : o ≡ held (cornersHeld o)) (h : o .count ≤ 16) where
@@ -123,7 +116,7 @@ module _ (xs : List ℤ) (w : wellCounted xs ≡ true) (o : Outline) (is : o ≡
   made-corners = ap cornersHeld is ∙ held-corners (cornersOf xs) small
 
   pub made-padded : o ≡ held (cornersHeld o)
-  made-padded = is ∙ ap held (sym made-corners)
+  made-padded = made-again held cornersHeld (cornersOf xs) o (held-corners (cornersOf xs) small) is
 
   pub made-count : o .count ≤ 16
   made-count = omega (arith, ap (λ p. p .count) is, small)

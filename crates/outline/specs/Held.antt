@@ -4,9 +4,10 @@
 --   Kept o           sixteen places, and at most as many corners
 --   Held o           kept, and each place within 10,000 both ways
 use mathlib.Core.Path.{_≡_}
-use mathlib.Core.List.{List, _++_}
-use Prim.Native.Nat.{ℕ, _-_, _≤_}
-use lib.ListN.{length, take, replicate}
+use mathlib.Core.List.{List}
+use Prim.Native.Nat.{ℕ, _≤_}
+use lib.ListN.{length, take}
+use Rattle.whole.specs.Padded.{padded}
 use Rattle.plane.specs.Point.{origin}
 use Rattle.plane.specs.Near.{Near}
 use Rattle.plane.specs.Edges.{corner}
@@ -17,7 +18,7 @@ abbrev pub cornersHeld : Outline → List Corner
 cornersHeld o = take (o .count) (o .corners)
 
 abbrev pub held : List Corner → Outline
-held A = record { corners = A ++ replicate (16 - length A) origin; count = length A }
+held A = record { corners = padded 16 origin A; count = length A }
 
 pub record Kept (o : Outline) : Type 0 where
   pub places : length (o .corners) ≡ 16

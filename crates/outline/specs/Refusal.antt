@@ -1,6 +1,5 @@
 -- Why an outline is turned away, and the reasons that outlines and moves have in common.
 --   firstThatApplies rs    the number of the first reason that applies, top down, or 0 where none does
---   orElse r s             the reason r, or s where r is none
 --   counted n              n is from 3 to 16, as the corners of an outline are
 --   inRange z              z is from -10,000 to 10,000
 --   placed A               every coordinate of A is in range
@@ -8,7 +7,7 @@
 use mathlib.Core.Bool.{Bool, not, cond, _&&_}
 use mathlib.Core.List.{List, [], _∷_}
 use Prim.Native.Nat.{ℕ}
-use lib.Dec.{leb, eqb}
+use lib.Dec.{leb}
 use lib.IntN.{ℤ, natAbs}
 use lib.ListN.{length}
 use Rattle.whole.specs.Lowest.{every}
@@ -24,9 +23,6 @@ Reason = ℕ × Bool
 unfoldable pub firstThatApplies : List Reason → ℕ
 firstThatApplies [] = 0
 firstThatApplies (r ∷ rs) = cond (r .1) (r .0) (firstThatApplies rs)
-
-abbrev pub orElse : ℕ → ℕ → ℕ
-orElse r s = cond (eqb r 0) s r
 
 unfoldable pub counted : ℕ → Bool
 counted n = leb 3 n && leb n 16

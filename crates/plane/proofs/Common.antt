@@ -8,7 +8,7 @@ use Rattle.whole.proofs.Linear.{ints}
 use Rattle.plane.specs.Interval.{shares}
 use Rattle.plane.specs.CommonPoint.{CommonPoint, total, weighted}
 use Rattle.plane.specs.declared.Corner.{Corner}
-use Rattle.plane.proofs.Hull.{within-common, within-shares}
+use Rattle.plane.proofs.Hull.{amid-common, amid-shares}
 
 unfoldable pub common-flip : {A B : List Corner} → CommonPoint A B → CommonPoint B A
 common-flip c = record {
@@ -24,5 +24,5 @@ common-flip c = record {
 -- a common point gives a shared value in every direction
 pub common-shares : (A B : List Corner) → CommonPoint A B → (D : Corner) → shares D A B ≡ true
 common-shares A B c =
-    let w = within-common A B c in
-    within-shares A B (pos (total (c .onA))) (weighted (c .onA) A) (omega (ints, c .above-zero)) (w .0) (w .1)
+    let w = amid-common A B c in
+    amid-shares A B (pos (total (c .onA))) (weighted (c .onA) A) (omega (ints, c .above-zero)) (w .0) (w .1)

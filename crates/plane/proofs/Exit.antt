@@ -17,7 +17,7 @@ use Rattle.plane.specs.Point.{plus, step, scaled, cross}
 use Rattle.plane.specs.Edges.{corner, edge}
 use Rattle.plane.specs.declared.Corner.{Corner}
 use Rattle.plane.proofs.Products.{coords}
-use Rattle.plane.proofs.Hull.{Within, within-member, within-sum, aside}
+use Rattle.plane.proofs.Hull.{Amid, amid-member, amid-sum, aside}
 
 -- ---- the first of some edges
 -- f k / - g k is the least such quotient among those below n with g below zero
@@ -75,7 +75,7 @@ pub record Leaves (X B : List Corner) : Type 0 where
   pub t : ℤ
   pub s : Corner
   pub above-zero : pos 0 <ℤ t
-  pub within : Within X t s
+  pub amid : Amid X t s
   pub inside : (l : ℕ) → l < length B → pos 0 ≤ℤ aside B t s l
   pub k : ℕ
   pub below : k < length B
@@ -88,7 +88,7 @@ aside-sum a b t e p s c = by-ring (a ∷ b ∷ t ∷ coords (e ∷ p ∷ s ∷ c
 positive : (a t b : ℤ) → pos 0 <ℤ a → pos 0 <ℤ t → pos 0 ≤ℤ b → pos 0 <ℤ (a *ℤ t +ℤ b *ℤ pos 1)
 positive a t b ha ht hb = let ρ = a ∷ t ∷ b ∷ [] in <lin ρ (search reps depth 12) tt (omega (arith, lin< ρ (search reps depth 12) tt (mul-pos a t ha ht), lin≤ ρ (search reps depth 12) tt hb))
 
-pub leaves : (X B : List Corner) (t : ℤ) (s : Corner) → pos 0 <ℤ t → Within X t s → ((l : ℕ) → l < length B → pos 0 ≤ℤ aside B t s l) → (c : Corner) → Mem c X
+pub leaves : (X B : List Corner) (t : ℤ) (s : Corner) → pos 0 <ℤ t → Amid X t s → ((l : ℕ) → l < length B → pos 0 ≤ℤ aside B t s l) → (c : Corner) → Mem c X
     → ((l : ℕ) → l < length B → pos 0 ≤ℤ cross (edge B l) (step (corner B l) c)) ⊎ Leaves X B
 leaves X B t s ht w f c m = ⊎-elim inl (λ r. inr (exit r)) (first (aside B t s) (λ l. cross (edge B l) (step (corner B l) c)) (length B) f)
   where
@@ -103,7 +103,7 @@ leaves X B t s ht w f c m = ⊎-elim inl (λ r. inr (exit r)) (first (aside B t 
           t = a *ℤ t +ℤ b *ℤ pos 1;
           s = plus (scaled a s) (scaled b c);
           above-zero = positive a t b ha ht hb;
-          within = within-sum X a b t (pos 1) s c (<-le (pos 0) a ha) hb w (within-member X c m);
+          amid = amid-sum X a b t (pos 1) s c (<-le (pos 0) a ha) hb w (amid-member X c m);
           inside = λ l h. rw (shift l) (r .least l h);
           k = r .k;
           below = r .below;

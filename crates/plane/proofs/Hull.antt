@@ -22,18 +22,18 @@ use Rattle.plane.proofs.Intervals.{low-bound, high-bound, shares-true}
 use Rattle.plane.proofs.Weights.{weighted-low}
 use Rattle.plane.proofs.Wide.{Wide, wide-left}
 
-abbrev pub Within : List Corner → ℤ → Corner → Type 0
-Within X t s = (D : Corner) (m : ℤ) → ((c : Corner) → Mem c X → m ≤ℤ dot D c) → (t *ℤ m) ≤ℤ dot D s
+abbrev pub Amid : List Corner → ℤ → Corner → Type 0
+Amid X t s = (D : Corner) (m : ℤ) → ((c : Corner) → Mem c X → m ≤ℤ dot D c) → (t *ℤ m) ≤ℤ dot D s
 
-pub within-member : (X : List Corner) (c : Corner) → Mem c X → Within X (pos 1) c
-within-member X c i D m h =
+pub amid-member : (X : List Corner) (c : Corner) → Mem c X → Amid X (pos 1) c
+amid-member X c i D m h =
     let k = h c i in
     let ρ = m ∷ dot D c ∷ [] in
     ≤lin ρ (search reps depth 12) tt (omega (arith, lin≤ ρ (search reps depth 12) tt k))
 
 -- a sum of two such points
-pub within-sum : (X : List Corner) (a b t u : ℤ) (s v : Corner) → pos 0 ≤ℤ a → pos 0 ≤ℤ b → Within X t s → Within X u v → Within X (a *ℤ t +ℤ b *ℤ u) (plus (scaled a s) (scaled b v))
-within-sum X a b t u s v ha hb f g D m h = rw (dot-plus D (scaled a s) (scaled b v), dot-scaled a D s, dot-scaled b D v) (sum (dot D s) (dot D v) (f D m h) (g D m h))
+pub amid-sum : (X : List Corner) (a b t u : ℤ) (s v : Corner) → pos 0 ≤ℤ a → pos 0 ≤ℤ b → Amid X t s → Amid X u v → Amid X (a *ℤ t +ℤ b *ℤ u) (plus (scaled a s) (scaled b v))
+amid-sum X a b t u s v ha hb f g D m h = rw (dot-plus D (scaled a s) (scaled b v), dot-scaled a D s, dot-scaled b D v) (sum (dot D s) (dot D v) (f D m h) (g D m h))
   where
     sum : (x y : ℤ) → (t *ℤ m) ≤ℤ x → (u *ℤ m) ≤ℤ y → ((a *ℤ t +ℤ b *ℤ u) *ℤ m) ≤ℤ (a *ℤ x +ℤ b *ℤ y)
     sum x y h k =
@@ -45,8 +45,8 @@ within-sum X a b t u s v ha hb f g D m h = rw (dot-plus D (scaled a s) (scaled b
         ))
 
 -- a common point lies between the corners of both
-pub within-common : (A B : List Corner) (c : CommonPoint A B) → Within A (pos (total (c .onA))) (weighted (c .onA) A) × Within B (pos (total (c .onA))) (weighted (c .onA) A)
-within-common A B c = (λ D m h. weighted-low D m A (c .onA) (c .each-of-A) h, λ D m h. rw (c .same-total, c .agree) (weighted-low D m B (c .onB) (c .each-of-B) h))
+pub amid-common : (A B : List Corner) (c : CommonPoint A B) → Amid A (pos (total (c .onA))) (weighted (c .onA) A) × Amid B (pos (total (c .onA))) (weighted (c .onA) A)
+amid-common A B c = (λ D m h. weighted-low D m A (c .onA) (c .each-of-A) h, λ D m h. rw (c .same-total, c .agree) (weighted-low D m B (c .onB) (c .each-of-B) h))
 
 -- bounds from above: from below in the opposite direction
 pub opposite-bound : (D c : Corner) (m : ℤ) → dot D c ≤ℤ m → negℤ m ≤ℤ dot (scaled (negsuc 0) D) c
@@ -54,21 +54,21 @@ opposite-bound D c m h =
     let ρ = dot D c ∷ m ∷ [] in
     rw (scaled-dot (negsuc 0) D c) (≤lin ρ (search reps depth 12) tt (omega (arith, lin≤ ρ (search reps depth 12) tt h)))
 
-pub within-high : (X : List Corner) (t : ℤ) (s : Corner) → Within X t s → (D : Corner) (m : ℤ) → ((c : Corner) → Mem c X → dot D c ≤ℤ m) → dot D s ≤ℤ (t *ℤ m)
-within-high X t s f D m h =
+pub amid-high : (X : List Corner) (t : ℤ) (s : Corner) → Amid X t s → (D : Corner) (m : ℤ) → ((c : Corner) → Mem c X → dot D c ≤ℤ m) → dot D s ≤ℤ (t *ℤ m)
+amid-high X t s f D m h =
     let ρ = t ∷ m ∷ dot D s ∷ [] in
     let l = rw (scaled-dot (negsuc 0) D s) at (f (scaled (negsuc 0) D) (negℤ m) (λ c i. opposite-bound D c m (h c i))) in
     ≤lin ρ (search reps depth 12) tt (omega (arith, lin≤ ρ (search reps depth 12) tt l))
 
 -- a point between the corners of both: the lists share a value in each direction
-within-low : (X Y : List Corner) (t : ℤ) (s : Corner) → pos 0 <ℤ t → Within X t s → Within Y t s → (D : Corner) → low D X ≤ℤ high D Y
-within-low X Y t s h f g D =
+amid-low : (X Y : List Corner) (t : ℤ) (s : Corner) → pos 0 <ℤ t → Amid X t s → Amid Y t s → (D : Corner) → low D X ≤ℤ high D Y
+amid-low X Y t s h f g D =
     let ρ = t ∷ low D X ∷ high D Y ∷ [] in
-    let l = ≤-trans (t *ℤ low D X) (dot D s) (t *ℤ high D Y) (f D (low D X) (low-bound D X)) (within-high Y t s g D (high D Y) (high-bound D Y)) in
+    let l = ≤-trans (t *ℤ low D X) (dot D s) (t *ℤ high D Y) (f D (low D X) (low-bound D X)) (amid-high Y t s g D (high D Y) (high-bound D Y)) in
     cancel-≤ (low D X) (high D Y) t h (≤lin ρ (search reps depth 12) tt (omega (arith, lin≤ ρ (search reps depth 12) tt l)))
 
-pub within-shares : (X Y : List Corner) (t : ℤ) (s : Corner) → pos 0 <ℤ t → Within X t s → Within Y t s → (D : Corner) → shares D X Y ≡ true
-within-shares X Y t s h f g D = shares-true D X Y (within-low X Y t s h f g D) (within-low Y X t s h g f D)
+pub amid-shares : (X Y : List Corner) (t : ℤ) (s : Corner) → pos 0 <ℤ t → Amid X t s → Amid Y t s → (D : Corner) → shares D X Y ≡ true
+amid-shares X Y t s h f g D = shares-true D X Y (amid-low X Y t s h f g D) (amid-low Y X t s h g f D)
 
 -- the direction to the left of an edge
 abbrev inward : Corner → Corner
@@ -91,8 +91,8 @@ abbrev pub aside : List Corner → ℤ → Corner → ℕ → ℤ
 aside A t s i = cross (edge A i) (step (scaled t (corner A i)) s)
 
 -- a point between the corners of a wide outline lies to the right of no edge
-pub within-aside : (A : List Corner) → Wide A → (t : ℤ) (s : Corner) → Within A t s → (i : ℕ) → i < length A → pos 0 ≤ℤ aside A t s i
-within-aside A w t s f i h =
+pub amid-aside : (A : List Corner) → Wide A → (t : ℤ) (s : Corner) → Amid A t s → (i : ℕ) → i < length A → pos 0 ≤ℤ aside A t s i
+amid-aside A w t s f i h =
     let p = corner A i in
     let e = edge A i in
     let bound = f (inward e) (cross e p) (λ c m. rw (dot-inward e c) (sub-nonneg (cross e p) (cross e c) (rw (cross-step e p c) at (wide-left A w i h c m)))) in

@@ -25,7 +25,7 @@ use Rattle.plane.specs.CommonPoint.{CommonPoint, total, weighted}
 use Rattle.plane.specs.declared.Corner.{Corner}
 use Rattle.plane.proofs.Products.{corner-same, coords, scaled-cross, dot-scaled}
 use Rattle.plane.proofs.Weights.{weighted-low}
-use Rattle.plane.proofs.Hull.{Within, within-common, within-shares, within-aside}
+use Rattle.plane.proofs.Hull.{Amid, amid-common, amid-shares, amid-aside}
 use Rattle.plane.proofs.Nearest.{Nearest, nearest-flip, common-or-nearest}
 use Rattle.plane.proofs.Wide.{Wide, Into, edge-into}
 use Rattle.plane.proofs.Separation.{faces, shares-common}
@@ -126,8 +126,8 @@ common-mean A t s c = record {
 pub inside-mean : (A : List Corner) → Wide A → (t : ℕ) (s : Corner) → 0 < t → InsideAt A t s → Mean A t s
 inside-mean A w t s h f = common-mean A t s (left-common (grown t A) (wide-moved 0 t origin A h w) s (inside-grown A t s f))
 
-mean-within : (A : List Corner) (t : ℕ) (s : Corner) → Mean A t s → Within A (pos t) s
-mean-within A t s m D n h = divide (pos t) (pos (total (m .ws))) (dot D (weighted (m .ws) A)) (dot D s) (omega ints) (omega (ints, m .above-zero)) (weighted-low D n A (m .ws) (m .each) h)
+mean-amid : (A : List Corner) (t : ℕ) (s : Corner) → Mean A t s → Amid A (pos t) s
+mean-amid A t s m D n h = divide (pos t) (pos (total (m .ws))) (dot D (weighted (m .ws) A)) (dot D s) (omega ints) (omega (ints, m .above-zero)) (weighted-low D n A (m .ws) (m .each) h)
     (sym (dot-scaled (pos t) D (weighted (m .ws) A)) ∙ ap (dot D) (m .agree) ∙ dot-scaled (pos (total (m .ws))) D s)
   where
     divide : (t k x y : ℤ) → pos 0 ≤ℤ t → pos 0 <ℤ k → (k *ℤ n) ≤ℤ x → t *ℤ x ≡ k *ℤ y → (t *ℤ n) ≤ℤ y
@@ -136,23 +136,23 @@ mean-within A t s m D n h = divide (pos t) (pos (total (m .ws))) (dot D (weighte
         cancel-≤ (t *ℤ n) y k hk (≤lin ρ (search reps depth 12) tt (omega (arith, lin≡ ρ (search reps depth 12) tt e, lin≤ ρ (search reps depth 12) tt (mul-nonneg t (x -ℤ k *ℤ n) ht (nonneg-sub (k *ℤ n) x l)))))
 
 pub mean-inside : (A : List Corner) → Wide A → (t : ℕ) (s : Corner) → Mean A t s → InsideAt A t s
-mean-inside A w t s m = within-aside A w (pos t) s (mean-within A t s m)
+mean-inside A w t s m = amid-aside A w (pos t) s (mean-amid A t s m)
 
-pub inside-within : (A : List Corner) → Wide A → (t : ℕ) (s : Corner) → 0 < t → InsideAt A t s → Within A (pos t) s
-inside-within A w t s h f = mean-within A t s (inside-mean A w t s h f)
+pub inside-amid : (A : List Corner) → Wide A → (t : ℕ) (s : Corner) → 0 < t → InsideAt A t s → Amid A (pos t) s
+inside-amid A w t s h f = mean-amid A t s (inside-mean A w t s h f)
 
 -- ---- points of two outlines
-pub within-point : (A B : List Corner) → Wide A → Wide B → (t : ℤ) (s : Corner) → pos 0 <ℤ t → Within A t s → Within B t s → CommonPoint A B
-within-point A B wa wb t s h f g =
-    let all = within-shares A B t s h f g in
+pub amid-point : (A B : List Corner) → Wide A → Wide B → (t : ℤ) (s : Corner) → pos 0 <ℤ t → Amid A t s → Amid B t s → CommonPoint A B
+amid-point A B wa wb t s h f g =
+    let all = amid-shares A B t s h f g in
     shares-common A B wa wb (λ i l. all (side (edge A i))) (λ j l. all (side (edge B j)))
 
 pub inside-common : (A B : List Corner) → Wide A → Wide B → (t : ℕ) (s : Corner) → 0 < t → InsideAt A t s → InsideAt B t s → CommonPoint A B
-inside-common A B wa wb t s h f g = within-point A B wa wb (pos t) s (omega ints) (inside-within A wa t s h f) (inside-within B wb t s h g)
+inside-common A B wa wb t s h f g = amid-point A B wa wb (pos t) s (omega ints) (inside-amid A wa t s h f) (inside-amid B wb t s h g)
 
 pub common-inside : (A B : List Corner) → Wide A → Wide B → (c : CommonPoint A B) → InsideAt A (total (c .onA)) (weighted (c .onA) A) × InsideAt B (total (c .onA)) (weighted (c .onA) A)
 common-inside A B wa wb c =
     let t = pos (total (c .onA)) in
     let s = weighted (c .onA) A in
-    let w = within-common A B c in
-    (within-aside A wa t s (w .0), within-aside B wb t s (w .1))
+    let w = amid-common A B c in
+    (amid-aside A wa t s (w .0), amid-aside B wb t s (w .1))

@@ -65,10 +65,3 @@ pub shares-clash : (D : Corner) (A B : List Corner) → 1 ≤ length A → 1 ≤
 shares-clash D A B h k e s =
     let w = shares-yes D A B e in
     ⊎-elim (λ f. clashℤ (before-ends D A B h k f) (w .1)) (λ f. clashℤ (before-ends D B A k h f) (w .0)) s
-
-pub shares-false : (D : Corner) (A B : List Corner) → 1 ≤ length A → 1 ≤ length B → Apart D A B → shares D A B ≡ false
-shares-false D A B h k s = go (shares D A B) refl
-  where
-    go : (t : Bool) → shares D A B ≡ t → t ≡ false
-    go true e = absurd (shares-clash D A B h k e s)
-    go false e = refl

@@ -17,7 +17,7 @@ use Rattle.plane.specs.Edges.{corner, next, edge}
 use Rattle.plane.specs.declared.Corner.{Corner}
 use Rattle.plane.proofs.Products.{coords, lagrange-cross, lagrange-dot}
 use Rattle.plane.proofs.Wide.{Wide, edge-long, next-below, next-onto}
-use Rattle.plane.proofs.Hull.{Within, aside}
+use Rattle.plane.proofs.Hull.{Amid, aside}
 
 -- ---- vectors along e
 -- u on the line of e and v not to its left: where v does not turn right of u, which points along e, v is on the line too
@@ -52,9 +52,9 @@ unfolding dot
 dot-away t D c s = by-ring (t ∷ coords (D ∷ c ∷ s ∷ [])) (search reps depth 14) (search reps depth 14) tt
 
 -- a point that is a weighted mean of p and q lies between them
-between-within : (t : ℤ) (p q s : Corner) (a b : ℤ) → pos 0 <ℤ t → pos 0 ≤ℤ a → pos 0 ≤ℤ b → pos 0 <ℤ (a +ℤ b)
-    → ((D : Corner) → a *ℤ dot D (step (scaled t q) s) +ℤ b *ℤ dot D (step (scaled t p) s) ≡ pos 0) → Within (p ∷ q ∷ []) t s
-between-within t p q s a b ht ha hb hab z D m h = go (dot D s) (dot D p) (dot D q) (h p (inl refl)) (h q (inr (inl refl))) (rw (dot-away t D q s, dot-away t D p s) at (z D))
+between-amid : (t : ℤ) (p q s : Corner) (a b : ℤ) → pos 0 <ℤ t → pos 0 ≤ℤ a → pos 0 ≤ℤ b → pos 0 <ℤ (a +ℤ b)
+    → ((D : Corner) → a *ℤ dot D (step (scaled t q) s) +ℤ b *ℤ dot D (step (scaled t p) s) ≡ pos 0) → Amid (p ∷ q ∷ []) t s
+between-amid t p q s a b ht ha hb hab z D m h = go (dot D s) (dot D p) (dot D q) (h p (inl refl)) (h q (inr (inl refl))) (rw (dot-away t D q s, dot-away t D p s) at (z D))
   where
     go : (x y z : ℤ) → m ≤ℤ y → m ≤ℤ z → a *ℤ (x -ℤ t *ℤ z) +ℤ b *ℤ (x -ℤ t *ℤ y) ≡ pos 0 → (t *ℤ m) ≤ℤ x
     go x y z k l e =
@@ -161,14 +161,14 @@ module _ (B : List Corner) (w : Wide B) (t : ℤ) (ht : pos 0 <ℤ t) (s : Corne
 
   -- the edge out of corner i holds the point
   Holds : ℕ → Type 0
-  Holds i = Within (corner B i ∷ corner B (next (length B) i) ∷ []) t s
+  Holds i = Amid (corner B i ∷ corner B (next (length B) i) ∷ []) t s
 
   edge-holds : (i : ℕ) → i < length B → off i ≡ pos 0 → off (after i) ≡ pos 0 → pos 0 ≤ℤ behind i → behind (after i) ≤ℤ pos 0 → Holds i
   unfolding off behind after Holds
   edge-holds i h o o′ l l′ =
       let e = edge B k in
       let j = next (length B) i in
-      between-within t (corner B i) (corner B j) s (dot e (away i)) (negℤ (dot e (away j))) ht l (omega (ints, P-neg (dot e (away j)), N-neg (dot e (away j)))) (apart (dot e (away i)) (dot e (away j)) (forward i h o o′))
+      between-amid t (corner B i) (corner B j) s (dot e (away i)) (negℤ (dot e (away j))) ht l (omega (ints, P-neg (dot e (away j)), N-neg (dot e (away j)))) (apart (dot e (away i)) (dot e (away j)) (forward i h o o′))
       (λ D. line-cancel (dot e e) (dot e D) (cross e D) (dot e (away i)) (dot e (away j)) (dot D (away i)) (dot D (away j)) long (rw o at (lagrange-dot e D (away i))) (rw o′ at (lagrange-dot e D (away j))))
     where
       apart : (x y : ℤ) → y <ℤ x → pos 0 <ℤ (x +ℤ negℤ y)
@@ -179,7 +179,7 @@ module _ (B : List Corner) (w : Wide B) (t : ℤ) (ht : pos 0 <ℤ t) (s : Corne
   corner-holds i o z =
       let e = edge B k in
       let j = next (length B) i in
-      between-within t (corner B i) (corner B j) s (pos 0) (pos 1) ht (omega ints) (omega ints) (omega ints) (λ D. line-zero (dot e e) (dot e D) (cross e D) (dot D (away i)) (dot D (away j)) long (rw (o, z) at (lagrange-dot e D (away i))))
+      between-amid t (corner B i) (corner B j) s (pos 0) (pos 1) ht (omega ints) (omega ints) (omega ints) (λ D. line-zero (dot e e) (dot e D) (cross e D) (dot D (away i)) (dot D (away j)) long (rw (o, z) at (lagrange-dot e D (away i))))
 
   Held : Type 0
   Held = (i : ℕ) × (i < length B) × Holds i
@@ -221,6 +221,6 @@ module _ (B : List Corner) (w : Wide B) (t : ℤ) (ht : pos 0 <ℤ t) (s : Corne
       let j = next-onto (length B) i h in
       ⊎-elim (λ l. walk-in n i h o c l (j .0) (j .1) (j .2) (walk n)) (⊎-elim (λ z. (i, h, corner-holds i o z)) (λ l. walk-out n i h o b l (walk n))) (cases (behind i) (pos 0))
 
-  pub rim-edge : (i : ℕ) × (i < length B) × Within (corner B i ∷ corner B (next (length B) i) ∷ []) t s
+  pub rim-edge : (i : ℕ) × (i < length B) × Amid (corner B i ∷ corner B (next (length B) i) ∷ []) t s
   unfolding Held Holds Walk off
   rim-edge = walk (P (behind k) + N (behind k)) k hk on (omega arith) (omega arith)

@@ -19,7 +19,7 @@ use Rattle.plane.specs.CommonPoint.{CommonPoint, total, weighted}
 use Rattle.plane.specs.declared.Corner.{Corner}
 use Rattle.plane.proofs.Wide.{Wide}
 use Rattle.plane.proofs.Insides.{inside-left}
-use Rattle.plane.proofs.Hull.{Within, within-common, within-shares, within-aside}
+use Rattle.plane.proofs.Hull.{Amid, amid-common, amid-shares, amid-aside}
 use Rattle.plane.proofs.Exit.{leaves}
 use Rattle.plane.proofs.Rim.{rim-edge}
 use Rattle.plane.proofs.Segments.{meet-shares}
@@ -33,16 +33,16 @@ record Crossing (X B : List Corner) : Type 0 where
   t : ℤ
   s : Corner
   above-zero : pos 0 <ℤ t
-  within : Within X t s
+  amid : Amid X t s
   i : ℕ
   below : i < length B
-  on : Within (ends B i) t s
+  on : Amid (ends B i) t s
 
 -- a point between corners of X and those of B: a given corner of X is inside B, or one leaves B on the way to it
-crossing : (X B : List Corner) → Wide B → (t : ℤ) (s : Corner) → pos 0 <ℤ t → Within X t s → Within B t s → (c : Corner) → Mem c X → (inside B c ≡ true) ⊎ Crossing X B
+crossing : (X B : List Corner) → Wide B → (t : ℤ) (s : Corner) → pos 0 <ℤ t → Amid X t s → Amid B t s → (c : Corner) → Mem c X → (inside B c ≡ true) ⊎ Crossing X B
 crossing X B w t s h f g c m = ⊎-elim (λ l. inl (inside-left B c .1 l))
-    (λ r. let e = rim-edge B w (r .t) (r .above-zero) (r .s) (r .inside) (r .k) (r .below) (r .on) in inr (record { t = r .t; s = r .s; above-zero = r .above-zero; within = r .within; i = e .0; below = e .1; on = e .2 }))
-    (leaves X B t s h f (within-aside B w t s g) c m)
+    (λ r. let e = rim-edge B w (r .t) (r .above-zero) (r .s) (r .inside) (r .k) (r .below) (r .on) in inr (record { t = r .t; s = r .s; above-zero = r .above-zero; amid = r .amid; i = e .0; below = e .1; on = e .2 }))
+    (leaves X B t s h f (amid-aside B w t s g) c m)
 
 -- what shows a common point of A and B: a corner of one inside the other, or two edges that share a point
 abbrev pub ShownByCorner : List Corner → List Corner → Type 0
@@ -54,10 +54,10 @@ ShownByEdges A B = (i : ℕ) × (i < length A) × (j : ℕ) × (j < length B) ×
 module _ (A B : List Corner) (wa : Wide A) (wb : Wide B) where
   edge-shown : Crossing B A → ShownByCorner A B ⊎ (ShownByCorner B A ⊎ ShownByEdges A B)
   edge-shown x = ⊎-elim (λ e. inl (x .i, x .below, e))
-      (λ y. inr (inr (x .i, x .below, y .i, y .below, meet-shares _ _ _ _ (within-shares (ends A (x .i)) (ends B (y .i)) (y .t) (y .s) (y .above-zero) (y .within) (y .on)))))
-      (crossing (ends A (x .i)) B wb (x .t) (x .s) (x .above-zero) (x .on) (x .within) (corner A (x .i)) (inl refl))
+      (λ y. inr (inr (x .i, x .below, y .i, y .below, meet-shares _ _ _ _ (amid-shares (ends A (x .i)) (ends B (y .i)) (y .t) (y .s) (y .above-zero) (y .amid) (y .on)))))
+      (crossing (ends A (x .i)) B wb (x .t) (x .s) (x .above-zero) (x .on) (x .amid) (corner A (x .i)) (inl refl))
 
   pub common-shown : CommonPoint A B → ShownByCorner A B ⊎ (ShownByCorner B A ⊎ ShownByEdges A B)
   common-shown c =
-      let w = within-common A B c in
+      let w = amid-common A B c in
       ⊎-elim (λ e. inr (inl (0, wb .some, e))) edge-shown (crossing B A wa (pos (total (c .onA))) (weighted (c .onA) A) (omega (ints, c .above-zero)) (w .1) (w .0) (corner B 0) (mem-at B 0 origin (wb .some)))

@@ -24,7 +24,7 @@ use Rattle.plane.proofs.Products.{coords, dot-plus, dot-scaled, scaled-
 use Rattle.plane.proofs.Intervals.{low-bound, low-member, high-bound}
 use Rattle.plane.proofs.Wide.{Wide}
 use Rattle.plane.proofs.Insides.{inside-at}
-use Rattle.plane.proofs.Hull.{Within, within-member, within-sum, within-common, within-aside, opposite-bound, within-high}
+use Rattle.plane.proofs.Hull.{Amid, amid-member, amid-sum, amid-common, amid-aside, opposite-bound, amid-high}
 use Rattle.plane.proofs.Shown.{ShownByCorner}
 
 -- ---- the first corner on the line, in the direction e
@@ -39,7 +39,7 @@ record Foot (X : List Corner) (t : ℤ) (s D e : Corner) (h : ℤ) : Type 0 wher
   lowest : dot D c ≡ h
   first : (t *ℤ dot e c) ≤ℤ dot e s
 
-module _ (X : List Corner) (hX : 1 ≤ length X) (t : ℤ) (ht : pos 0 <ℤ t) (s : Corner) (f : Within X t s) (D e : Corner) (h : ℤ) (hD : (c : Corner) → Mem c X → h ≤ℤ dot D c) (hs : dot D s ≡ t *ℤ h) where
+module _ (X : List Corner) (hX : 1 ≤ length X) (t : ℤ) (ht : pos 0 <ℤ t) (s : Corner) (f : Amid X t s) (D e : Corner) (h : ℤ) (hD : (c : Corner) → Mem c X → h ≤ℤ dot D c) (hs : dot D s ≡ t *ℤ h) where
   foot : Foot X t s D e h
   foot =
       let H = high e X in
@@ -86,10 +86,10 @@ same-dots D p q h e f F = both (dot D D) (dot F p) (dot F q) (dot D F) (dot D q)
         cancel-≡ x y k hk (≡lin ρ (search reps depth 12) tt (omega (arith, lin≡ ρ (search reps depth 12) tt e, lin≡ ρ (search reps depth 12) tt f)))
 
 -- a on the line, no sooner than the corner b and no later than s/t, which lies between the corners of X
-module _ (X : List Corner) (w : Wide X) (t : ℤ) (ht : pos 0 <ℤ t) (s : Corner) (f : Within X t s) (D : Corner) (hD : pos 0 <ℤ dot D D) (h : ℤ) (hs : dot D s ≡ t *ℤ h)
+module _ (X : List Corner) (w : Wide X) (t : ℤ) (ht : pos 0 <ℤ t) (s : Corner) (f : Amid X t s) (D : Corner) (hD : pos 0 <ℤ dot D D) (h : ℤ) (hs : dot D s ≡ t *ℤ h)
     (a b : Corner) (mb : Mem b X) (ha : dot D a ≡ h) (hb : dot D b ≡ h) where
   mean-inside-of : (x y : ℤ) → pos 0 ≤ℤ x → pos 0 ≤ℤ y → pos 0 <ℤ (x *ℤ pos 1 +ℤ y *ℤ t) → (x *ℤ pos 1 +ℤ y *ℤ t) *ℤ dot (side D) a ≡ x *ℤ dot (side D) b +ℤ y *ℤ dot (side D) s → inside X a ≡ true
-  mean-inside-of x y hx hy hk e = inside-at X a .1 (within-aside X w (pos 1) a one)
+  mean-inside-of x y hx hy hk e = inside-at X a .1 (amid-aside X w (pos 1) a one)
     where
       k : ℤ
       k = x *ℤ pos 1 +ℤ y *ℤ t
@@ -106,8 +106,8 @@ module _ (X : List Corner) (w : Wide X) (t : ℤ) (ht : pos 0 <ℤ t) (s : Corne
       all : (F : Corner) → k *ℤ dot F a ≡ dot F v
       all F = sym (dot-scaled k F a) ∙ same-dots D (scaled k a) v hD (dot-scaled k D a ∙ ap (λ z. k *ℤ z) ha ∙ level ∙ sym (dots D ∙ ap₂ (λ m n. x *ℤ m +ℤ y *ℤ n) hb hs)) (dot-scaled k (side D) a ∙ e ∙ sym (dots (side D))) F
 
-      one : Within X (pos 1) a
-      one F m l = divide (dot F a) (rw (← all F) at (within-sum X x y (pos 1) t b s hx hy (within-member X b mb) f F m l))
+      one : Amid X (pos 1) a
+      one F m l = divide (dot F a) (rw (← all F) at (amid-sum X x y (pos 1) t b s hx hy (amid-member X b mb) f F m l))
         where
           divide : (z : ℤ) → (k *ℤ m) ≤ℤ (k *ℤ z) → (pos 1 *ℤ m) ≤ℤ z
           divide z u =
@@ -158,8 +158,8 @@ touch-shown A B wa wb c D hD e =
     ht : pos 0 <ℤ t
     ht = omega (ints, c .above-zero)
 
-    w : Within A t s × Within B t s
-    w = within-common A B c
+    w : Amid A t s × Amid B t s
+    w = amid-common A B c
 
     above-A : (a : Corner) → Mem a A → dot D a ≤ℤ h
     above-A a m = rw e at (high-bound D A a m)
@@ -168,7 +168,7 @@ touch-shown A B wa wb c D hD e =
     below-A a m = opposite-bound D a h (above-A a m)
 
     hs : dot D s ≡ t *ℤ h
-    hs = ≤-antisym (dot D s) (t *ℤ h) (within-high A t s (w .0) D h above-A) (w .1 D h (low-bound D B))
+    hs = ≤-antisym (dot D s) (t *ℤ h) (amid-high A t s (w .0) D h above-A) (w .1 D h (low-bound D B))
 
     hs-A : dot (scaled (negsuc 0) D) s ≡ t *ℤ negℤ h
     hs-A = scaled-dot (negsuc 0) D s ∙ ap (λ z. negsuc 0 *ℤ z) hs ∙ over t

@@ -4,8 +4,9 @@ use mathlib.Core.List.{List}
 use Prim.Native.Nat.{ℕ}
 use Rattle.promise.specs.Promise.{Promise}
 use Rattle.promise.proofs.Promised.{promise-unless}
-use Rattle.frame.specs.Reading.{refusalOfLine, moveOfLine, answerOfLine}
-use Rattle.frame.proofs.RoundTrip.{accepted}
+use Rattle.moveline.specs.Reading.{refusalOfLine, moveOfLine}
+use Rattle.frame.specs.AnswerOfLine.{answerOfLine}
+use Rattle.moveline.proofs.RoundTrip.{accepted}
 
 pub promise-line : (l : List ℕ) → refusalOfLine l ≡ 0 → Promise (moveOfLine l) (answerOfLine l)
 unfolding answerOfLine

@@ -8,17 +8,14 @@ use native.Mathlib.Omega.{arith}
 use lib.IntN.{pos}
 use lib.ListN.{length, getD, replicate, length-append, List·getD-append}
 use lib.Seq.{getD-append-add}
-use borrow.Author.Tests.{ne-eqb}
 use Rattle.plane.specs.Edges.{corner}
 use Rattle.plane.specs.declared.Corner.{Corner}
 use Rattle.outline.specs.Held.{Kept}
 use Rattle.outline.proofs.Testing.{held-kept}
-use Rattle.moves.specs.Move.{nothing}
-use Rattle.moves.specs.HeldMove.{heldMove}
 use Rattle.moves.specs.declared.HeldMove.{HeldMove}
-use Rattle.frame.specs.Reading.{refusalOfLine, moveOfLine}
-use Rattle.moves.proofs.Listed.{held-accepted}
-use Rattle.frame.proofs.RoundTrip.{accepted}
+use Rattle.moveline.specs.Reading.{refusalOfLine, moveOfLine, readingOfLine}
+use Rattle.moves.proofs.Listed.{held-accepted, reading-none, reading-some}
+use Rattle.moveline.proofs.RoundTrip.{accepted}
 use Rattle.stonefruitle_c.specs.Numbers.{coordinates, heading, numbers}
 
 -- ---- one outline's coordinates
@@ -66,17 +63,13 @@ module _ (m : HeldMove) (p : Kept (m .a)) (q : Kept (m .b)) where
       ∙ getD-append-add (coordinates (m .a .corners)) (coordinates (m .b .corners)) k (pos 0)
 
 -- ---- the move of a line
-nothing-line : (l : List ℕ) → refusalOfLine l ≢ 0 → moveOfLine l ≡ nothing
-unfolding moveOfLine
-nothing-line l n = simp (ne-eqb (refusalOfLine l) 0 n)
-
-pub line-kept : (l : List ℕ) → Kept (heldMove (moveOfLine l) .a) × Kept (heldMove (moveOfLine l) .b)
+pub line-kept : (l : List ℕ) → Kept (readingOfLine l .held .a) × Kept (readingOfLine l .held .b)
 line-kept l = go (ℕ-discrete (refusalOfLine l) 0)
   where
-    go : Dec (refusalOfLine l ≡ 0) → Kept (heldMove (moveOfLine l) .a) × Kept (heldMove (moveOfLine l) .b)
-    go (yes e) = let f = held-accepted (moveOfLine l) (accepted l e) .0 in (f .held-a .kept, f .held-b .kept)
-    go (no n) = rw (nothing-line l n) (held-kept [] (omega arith), held-kept [] (omega arith))
+    go : Dec (refusalOfLine l ≡ 0) → Kept (readingOfLine l .held .a) × Kept (readingOfLine l .held .b)
+    go (yes e) = let f = held-accepted (moveOfLine l) (accepted l e) .0 in rw (reading-none (refusalOfLine l) (moveOfLine l) e) (f .held-a .kept, f .held-b .kept)
+    go (no n) = rw (reading-some (refusalOfLine l) (moveOfLine l) n) (held-kept [] (omega arith), held-kept [] (omega arith))
 
-pub refused-zeros : (l : List ℕ) → refusalOfLine l ≢ 0 → numbers (heldMove (moveOfLine l)) ≡ replicate 71 (pos 0)
+pub refused-zeros : (l : List ℕ) → refusalOfLine l ≢ 0 → numbers (readingOfLine l .held) ≡ replicate 71 (pos 0)
 unfolding coordinates
-refused-zeros l n = ap (λ m. numbers (heldMove m)) (nothing-line l n)
+refused-zeros l n = ap (λ r. numbers (r .held)) (reading-some (refusalOfLine l) (moveOfLine l) n)

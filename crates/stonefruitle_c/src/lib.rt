@@ -5,8 +5,8 @@ ghost use lib.ListN.{length};
 ghost use Rattle.plane.specs.Point.{point};
 ghost use Rattle.outline.specs.Refusal.{refusalOfOutline};
 ghost use Rattle.verdict.specs.Answer.{answerOfLists};
-ghost use Rattle.frame.specs.Reading.{answerOfLine, refusalOfLine};
-ghost use Rattle.frame.specs.Answers.{reading};
+ghost use Rattle.frame.specs.AnswerOfLine.{answerOfLine};
+ghost use Rattle.moveline.specs.Reading.{refusalOfLine, readingOfLine};
 ghost use Rattle.stonefruitle_c.specs.Numbers.{numbers};
 ghost use Rattle.checker.specs.Entries.{spoken, spokenOut, writtenMove, writtenMoveOut};
 
@@ -81,7 +81,7 @@ pub extern "C" fn stonefruitle_read_line(line: &[u8]) -> u8
 // sixteen corner places of A, sixteen of B; all zeros where the line is refused.
 #[no_mangle]
 pub extern "C" fn stonefruitle_read_move(line: &[u8], into: &mut [i64; 71]) -> u8
-    ensures { λ r. ⌜ (r ≡ refusalOfLine (now (line .entry))) × (now (into .exit) ≡ numbers (reading (now (line .entry)) .held)) ⌝ }
+    ensures { λ r. ⌜ (r ≡ refusalOfLine (now (line .entry))) × (now (into .exit) ≡ numbers (readingOfLine (now (line .entry)) .held)) ⌝ }
 {
     let r = checker::read_line(line);
     *into = numbers::numbers_of(r.held);

@@ -7,7 +7,7 @@ use native.Mathlib.Omega.{arith}
 use lib.Dec.{eqb}
 use lib.ListN.{length, take, drop, length-take, length-drop, length-append}
 use lib.Seq.{take-append-seam, drop-drop}
-use Rattle.frame.specs.Over.{over}
+use Rattle.whole.specs.Padded.{over}
 use Rattle.lines.specs.Begun.{begunBytes}
 use Rattle.lines.specs.Lines.{unfinished}
 use Rattle.lines.specs.Stream.{answersTo, lastAnswer, kept}

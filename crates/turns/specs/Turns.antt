@@ -9,7 +9,7 @@ use mathlib.Core.List.{List, []}
 use Prim.Native.Nat.{ℕ, _+_, _-_, _≤_}
 use lib.Dec.{eqb}
 use lib.ListN.{length, take, drop}
-use Rattle.frame.specs.Over.{over}
+use Rattle.whole.specs.Padded.{over}
 use Rattle.lines.specs.Begun.{begunWith, begunBytes, Holds}
 use Rattle.lines.specs.Stream.{answersTo, lastAnswer}
 use Rattle.lines.specs.Feeding.{answersRoom, fed}

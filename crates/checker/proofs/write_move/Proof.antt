@@ -1,23 +1,25 @@
 -- The tests are the definition's own; a move that is not refused has a frame of at most 141 bytes, whose line is put.
 use mathlib.Core.Path.{_≡_, sym, _∙_, ap, subst}
 use native.Mathlib.Omega.{arith}
+use lib.ListN.{length}
 use mir.Facts.{toZ-ofZ}
 use borrow.Author.Needs.{needs}
+use Rattle.whole.specs.Padded.{over}
+use Rattle.hex.specs.Hex.{hexLine}
 use Rattle.moves.specs.Move.{moveOfLists}
 use Rattle.moves.specs.HeldMove.{moveHeld}
 use Rattle.moves.specs.Reading.{readingOfLists}
-use Rattle.frame.specs.MoveFrame.{moveFrame, moveLine}
-use Rattle.frame.specs.Framed.{framed, Whole}
-use Rattle.frame.proofs.Pushing.{framed-whole}
-use Rattle.frame.proofs.Storing.{line-count, line-stored}
+use Rattle.moveline.specs.MoveFrame.{moveFrame, moveLine}
+use Rattle.hex.specs.Frame.{framed, frameBytes, Whole}
+use Rattle.hex.proofs.Pushing.{framed-bytes, framed-whole}
 use Rattle.checker.specs.Entries.{written}
 use Rattle.checker.proofs.Writing.{move-narrow, move-refused, move-written, read-refusal, read-fit, read-move, read-short}
 use Rattle.checker.proofs.write_move.Statement.{statement}
 use Rattle.checker.proofs.write_move.Tie as tie
 use Rattle.checker.proofs.write_move.Reads as reads
 use Rattle.checker.proofs.write_move.Lts as lts
-use Rattle.frame.proofs.writer.move_frame.Reads as move-frame-reads
-use Rattle.frame.proofs.writer.put_line.Reads as put-line-reads
+use Rattle.moveline.proofs.writer.move_frame.Reads as move-frame-reads
+use Rattle.hex.proofs.text.put_line.Reads as put-line-reads
 use Rattle.moves.proofs.lists.read_lists.Reads as read-lists-reads
 
 -- what was read, with the limit as it was handed in
@@ -64,9 +66,9 @@ returns-3 c =
     let m = moveOfLists (s .a .now) (s .b .now) (s .va) (s .vb) (s .limit) in
     let none = e .if2 .left in
     let is = move-written (s .a .now) (s .b .now) (s .va) (s .vb) (s .limit) (s .out .now) (r .before .if1 .left) (sym (read-refusal _ _ _ _ _ _ (the-reading r)) ∙ none) in
-    let frame = f .move-frame .ensures ∙ ap (λ x. framed (moveFrame x)) (read-move _ _ _ _ _ _ (the-reading r) none) in
+    let bytes = ap frameBytes (f .move-frame .ensures ∙ ap (λ x. framed (moveFrame x)) (read-move _ _ _ _ _ _ (the-reading r) none)) ∙ framed-bytes (moveFrame m) in
     let put = c .before .before .put-line .ensures in
-    (ap (written 0) (put .0 ∙ line-count (moveFrame m) _ frame) ∙ is .0, put .1 ∙ line-stored (moveFrame m) _ frame (s .out .now) ∙ is .1)
+    (ap (written 0) (put .0 ∙ ap (λ b. length (hexLine b)) bytes) ∙ is .0, put .1 ∙ ap (λ b. over (hexLine b) (s .out .now)) bytes ∙ is .1)
 
 pub write-move-spec : {M : Type 1} → statement M
 write-move-spec =

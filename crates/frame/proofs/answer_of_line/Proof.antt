@@ -6,9 +6,8 @@ use Rattle.moves.specs.Reading.{Readable}
 use Rattle.moves.proofs.Listed.{reading-readable}
 use Rattle.verdict.proofs.Answering.{reading-answer}
 use borrow.Author.Needs.{needs}
-use Rattle.frame.specs.Reading.{answerOfLine}
-use Rattle.frame.proofs.RoundTrip.{accepted}
-use Rattle.frame.proofs.Answering.{reading-unless}
+use Rattle.frame.specs.AnswerOfLine.{answerOfLine}
+use Rattle.moveline.proofs.RoundTrip.{accepted}
 use Rattle.frame.proofs.answer_of_line.Statement.{statement}
 use Rattle.frame.proofs.answer_of_line.Tie as tie
 
@@ -18,13 +17,13 @@ read-requires c κs = search needs
 answer-of-requires : tie.Need-answer-of-requires
 answer-of-requires c κs =
     let l = c .before .before .args .line .now in
-    subst Readable (sym (c .read .ensures ∙ reading-unless l)) (reading-readable _ _ (accepted l))
+    subst Readable (sym (c .read .ensures)) (reading-readable _ _ (accepted l))
 
 returns : tie.Need-returns
 unfolding answerOfLine
 returns c =
     let l = c .before .before .before .args .line .now in
-    c .answer-of .ensures ∙ ap (λ r. answerUnless (r .refusal) (moveHeld (r .held))) (c .before .read .ensures ∙ reading-unless l) ∙ reading-answer _ _ (accepted l)
+    c .answer-of .ensures ∙ ap (λ r. answerUnless (r .refusal) (moveHeld (r .held))) (c .before .read .ensures) ∙ reading-answer _ _ (accepted l)
 
 pub answer-of-line-spec : {M : Type 1} → statement M
 answer-of-line-spec = tie.close (tie.spec read-requires answer-of-requires returns)

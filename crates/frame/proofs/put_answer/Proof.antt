@@ -1,12 +1,14 @@
 -- The frame of the answer has at most 22 bytes, so its line fits, and what is written is that line.
 use mathlib.Core.Path.{sym, _∙_, ap, subst}
 use native.Mathlib.Omega.{arith}
+use lib.ListN.{length}
 use borrow.Author.Needs.{needs}
+use Rattle.whole.specs.Padded.{over}
+use Rattle.hex.specs.Hex.{hexLine}
 use Rattle.frame.specs.AnswerFrame.{answerFrame, answerLine}
-use Rattle.frame.specs.Framed.{Whole}
-use Rattle.frame.proofs.Pushing.{framed-whole}
-use Rattle.frame.proofs.Storing.{line-count, line-stored}
-use Rattle.frame.proofs.Says.{length-answer}
+use Rattle.hex.specs.Frame.{frameBytes, Whole}
+use Rattle.hex.proofs.Pushing.{framed-bytes, framed-whole}
+use Rattle.frame.proofs.AnswerBytes.{length-answer}
 use Rattle.frame.proofs.put_answer.Statement.{statement}
 use Rattle.frame.proofs.put_answer.Tie as tie
 
@@ -26,9 +28,9 @@ returns : tie.Need-returns
 unfolding answerLine
 returns c =
     let s = c .before .before .before .before in
-    let bs = answerFrame (s .before .before .args .r) in
     let put = c .before .before .put-line .ensures in
-    (put .0 ∙ line-count bs _ (s .answer-frame .ensures), put .1 ∙ line-stored bs _ (s .answer-frame .ensures) _)
+    let bytes = ap frameBytes (s .answer-frame .ensures) ∙ framed-bytes (answerFrame (s .before .before .args .r)) in
+    (put .0 ∙ ap (λ b. length (hexLine b)) bytes, put .1 ∙ ap (λ b. over (hexLine b) (s .before .before .args .out .now)) bytes)
 
 pub put-answer-spec : {M : Type 1} → statement M
 put-answer-spec = tie.close (tie.spec answer-frame-requires put-line-requires same-length returns)

@@ -7,7 +7,7 @@ use lib.ListN.{length, getD, set}
 use mir.Syntax.{w64}
 use mir.Facts.{toZ-ofZ}
 use borrow.Author.Needs.{needs}
-use Rattle.whole.proofs.Filled.{filled, filled-none, filled-all, filled-step}
+use Rattle.whole.proofs.Padding.{filled, filled-none, filled-all, filled-step}
 use Rattle.plane.specs.Point.{point, origin}
 use Rattle.outline.specs.Coordinates.{cornersOf}
 use Rattle.outline.proofs.Pairs.{corners-length, corners-at}

@@ -3,6 +3,7 @@ use mathlib.Core.Path.{sym, _∙_, ap, subst}
 use borrow.Author.Needs.{needs}
 use Rattle.outline.specs.Held.{Kept}
 use Rattle.moves.specs.declared.Reading.{Reading}
+use Rattle.moves.proofs.Listed.{reading-refusal}
 use Rattle.stonefruitle_c.specs.Numbers.{numbers}
 use Rattle.stonefruitle_c.proofs.Listing.{line-kept}
 use Rattle.stonefruitle_c.proofs.stonefruitle_read_move.Statement.{statement}
@@ -18,7 +19,7 @@ numbers-of-requires c κs =
 returns : tie.Need-returns
 returns c =
     let is = c .before .read-line .ensures in
-    (ap (λ (r : Reading). r .refusal) is, c .numbers-of .ensures ∙ ap (λ (r : Reading). numbers (r .held)) is)
+    (ap (λ (r : Reading). r .refusal) is ∙ reading-refusal _ _, c .numbers-of .ensures ∙ ap (λ (r : Reading). numbers (r .held)) is)
 
 pub stonefruitle-read-move-spec : {M : Type 1} → statement M
 stonefruitle-read-move-spec = tie.close (tie.spec read-line-requires numbers-of-requires returns)

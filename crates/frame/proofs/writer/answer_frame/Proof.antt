@@ -4,18 +4,19 @@ use mathlib.Core.List.{[], _∷_, _++_, flatMap}
 use native.Mathlib.Omega.{arith}
 use Rattle.verdict.specs.Answer.{timesOf, namesOf}
 use Rattle.verdict.specs.declared.Answer.the-variants.{Contact}
-use Rattle.frame.specs.Bytes.{bytes4}
+use Rattle.hex.specs.Bytes.{bytes4}
 use Rattle.frame.specs.AnswerFrame.{answerFrame}
-use Rattle.frame.specs.Framed.{framed}
+use Rattle.hex.specs.Frame.{framed}
 use Rattle.frame.specs.Sayable.{Sayable}
-use Rattle.frame.proofs.Pushing.{empty-whole, Grown, next, chain, three-numbers}
+use Rattle.hex.proofs.Pushing.{empty-whole, Grown, next, chain}
+use Rattle.frame.proofs.AnswerBytes.{three-numbers}
 use borrow.Author.Needs.{needs}
 use Rattle.frame.proofs.writer.answer_frame.Statement.{statement}
 use Rattle.frame.proofs.writer.answer_frame.Tie as tie
 use Rattle.frame.proofs.writer.answer_frame.Reads as reads
 use Rattle.frame.proofs.writer.answer_frame.Lts as lts
-use Rattle.frame.proofs.writer.push.Reads as push-reads
-use Rattle.frame.proofs.writer.push3.Reads as push3-reads
+use Rattle.hex.proofs.frames.push.Reads as push-reads
+use Rattle.hex.proofs.frames.push3.Reads as push3-reads
 use Rattle.frame.proofs.writer.push_evidence.Reads as push-evidence-reads
 
 three : (c : lts.After-push32 (push3-reads.Asked, push3-reads.Learnt, push-reads.Asked, push-reads.Learnt, push-evidence-reads.Asked, push-evidence-reads.Learnt) reads.Pre reads.Post) → Grown (framed []) (0x81 ∷ 1 ∷ c .before .before .r2 .given .0 .0 ∷ []) (c .push32 .result)

@@ -4,16 +4,17 @@ use Prim.Native.Nat.{ℕ}
 use native.Mathlib.Omega.{arith}
 use Rattle.verdict.specs.Answer.{bearingNumber, showingNumbers}
 use Rattle.verdict.specs.declared.Evidence.{Evidence}
-use Rattle.frame.specs.Bytes.{bytes4}
-use Rattle.frame.proofs.Pushing.{Grown, next, chain, three-numbers}
+use Rattle.hex.specs.Bytes.{bytes4}
+use Rattle.hex.proofs.Pushing.{Grown, next, chain}
+use Rattle.frame.proofs.AnswerBytes.{three-numbers}
 use borrow.Author.Needs.{needs}
 use Rattle.frame.proofs.writer.push_evidence.Statement.{statement}
 use Rattle.frame.proofs.writer.push_evidence.Tie as tie
 use Rattle.frame.proofs.writer.push_evidence.Reads as reads
 use Rattle.frame.proofs.writer.push_evidence.Lts as lts
 use Rattle.frame.proofs.writer.bearing_byte.Reads as bearing-byte-reads
-use Rattle.frame.proofs.writer.push.Reads as push-reads
-use Rattle.frame.proofs.writer.push4.Reads as push4-reads
+use Rattle.hex.proofs.frames.push.Reads as push-reads
+use Rattle.hex.proofs.frames.push4.Reads as push4-reads
 use Rattle.frame.proofs.writer.push_showing.Reads as push-showing-reads
 
 -- ---- the bytes pushed so far

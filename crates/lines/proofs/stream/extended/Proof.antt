@@ -7,7 +7,7 @@ use native.Mathlib.Nat.{add-zero}
 use native.Mathlib.Omega.{arith}
 use lib.ListN.{length, take, getD, set}
 use borrow.Author.Needs.{needs}
-use Rattle.whole.proofs.Filled.{filled}
+use Rattle.whole.proofs.Padding.{filled}
 use Rattle.lines.specs.Stream.{kept}
 use Rattle.lines.proofs.Beginnings.{longer-length, longer-begun, longer-step, longer-all}
 use Rattle.lines.proofs.stream.extended.Statement.{statement}

@@ -6,7 +6,7 @@ use lib.ListN.{length, drop}
 use borrow.Author.Needs.{needs}
 use borrow.Author.Tests.{eq-eqb, ne-eqb}
 use Rattle.frame.specs.AnswerFrame.{answerLine}
-use Rattle.frame.specs.Reading.{answerOfLine}
+use Rattle.frame.specs.AnswerOfLine.{answerOfLine}
 use Rattle.lines.specs.Stream.{lastAnswer}
 use Rattle.lines.proofs.Beginnings.{held-count, held-within}
 use Rattle.lines.proofs.stream.finish.Statement.{statement}

@@ -2,7 +2,7 @@
 use mathlib.Core.Path.{_≡_, sym, _∙_, ap}
 use mathlib.Core.List.{[], _++_}
 use lib.ListN.{length}
-use Rattle.frame.specs.Over.{over}
+use Rattle.whole.specs.Padded.{over}
 use Rattle.frame.specs.AnswerFrame.{answerLine}
 use Rattle.lines.specs.Output.{answerTo}
 use Rattle.lines.specs.Stream.{kept}

@@ -8,7 +8,7 @@ use lib.ListN.{length, set, replicate}
 use mir.Syntax.{w64}
 use mir.Facts.{toZ-ofZ}
 use borrow.Author.Needs.{needs, sfits-of}
-use Rattle.whole.proofs.Filled.{filled, filled-none, filled-all, filled-step}
+use Rattle.whole.proofs.Padding.{filled, filled-none, filled-all, filled-step}
 use Rattle.stonefruitle_c.specs.Numbers.{numbers}
 use Rattle.stonefruitle_c.proofs.Listing.{numbers-length}
 use Rattle.stonefruitle_c.proofs.numbers.numbers_of.Statement.{statement}

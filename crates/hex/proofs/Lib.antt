@@ -1,0 +1,9 @@
+pub mod ByteLists
+pub mod NumberBytes
+pub mod Words
+pub mod HexText
+pub mod Texts
+pub mod Pushing
+pub mod Storing
+pub mod Decoding
+pub mod Determined

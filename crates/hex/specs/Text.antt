@@ -1,0 +1,20 @@
+-- Texts that are the hexadecimal text of a frame.
+--   textual l     l is a text of whole bytes: not empty, even in length, at most 282 digits, with no other character
+--   decoded l     the frame of such a text, or noFrame
+use mathlib.Core.Bool.{Bool, true, false, cond, _&&_}
+use mathlib.Core.List.{List, []}
+use Prim.Native.Nat.{ℕ, _%_}
+use lib.Dec.{ltb, leb, eqb}
+use lib.ListN.{length}
+use Rattle.hex.specs.Hex.{unhex, digits}
+use Rattle.hex.specs.Frame.{framed}
+use Rattle.hex.specs.declared.Decoded.{Decoded}
+
+abbrev pub textual : List ℕ → Bool
+textual l = ltb 0 (length l) && (eqb (length l % 2) 0 && (leb (length l) 282 && digits l))
+
+abbrev pub noFrame : Decoded
+noFrame = record { ok = false; frame = framed [] }
+
+unfoldable pub decoded : List ℕ → Decoded
+decoded l = cond (textual l) (record { ok = true; frame = framed (unhex l) }) noFrame

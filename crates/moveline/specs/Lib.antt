@@ -1,0 +1,2 @@
+pub mod MoveFrame
+pub mod Reading

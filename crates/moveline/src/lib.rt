@@ -1,0 +1,4 @@
+// The line of a move, both ways.
+mod fields; // what a move frame's bytes say
+pub mod reader; // moves out of lines
+pub mod writer; // frames of moves
