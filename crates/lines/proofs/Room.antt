@@ -19,7 +19,7 @@ use Rattle.frame.specs.AnswerOfLine.{answerOfLine}
 use Rattle.hex.proofs.HexText.{hex-length}
 use Rattle.moveline.proofs.FrameMove.{moveFrame-length}
 use Rattle.moveline.proofs.RoundTrip.{written-read}
-use Rattle.frame.proofs.Says.{length-answer}
+use Rattle.frame.proofs.AnswerBytes.{length-answer}
 use Rattle.lines.specs.Lines.{finished}
 use Rattle.lines.specs.Output.{answerTo}
 use Rattle.lines.specs.Stream.{answersTo, lastAnswer}
