@@ -1,20 +1,20 @@
 -- What is held of a line begun: the bytes and nothing else, so a line begun and a piece more are again the first 283 bytes of the two.
-use mathlib.Core.Path.{_≡_, sym, _∙_, ap}
+use mathlib.Core.Path.{_≡_, refl, sym, _∙_, ap}
 use mathlib.Core.List.{List, [], _++_}
 use Prim.Native.Nat.{ℕ, _+_, _-_, _≤_, _<_, min}
 use native.Mathlib.Omega.{arith}
 use lib.ListN.{length, take, getD, set, replicate, length-take, length-append}
 use lib.Seq.{take-append-seam, take-take, getD-take, getD-append-add}
-use Rattle.whole.proofs.Padding.{filled, filled-all, filled-step}
+use Rattle.whole.proofs.Padding.{made-again, padded-take, filled, filled-all, filled-step}
 use Rattle.lines.specs.declared.Begun.{Begun}
 use Rattle.lines.specs.Stream.{kept}
 use Rattle.lines.specs.Begun.{begunWith, begunBytes, Holds}
 
 pub begun-bytes : (l : List ℕ) → begunBytes (begunWith l) ≡ l
-begun-bytes l = take-append-seam l (replicate (283 - length l) 0)
+begun-bytes l = padded-take 283 0 l
 
 pub begun-holds : (l : List ℕ) → length l ≤ 283 → Holds (begunWith l)
-begun-holds l h = record { few = h; is = ap begunWith (sym (begun-bytes l)) }
+begun-holds l h = record { few = h; is = made-again begunWith begunBytes l (begunWith l) (begun-bytes l) refl }
 
 pub held-count : (b : Begun) → Holds b → length (begunBytes b) ≡ b .count
 held-count b h = sym (ap (λ e. e .count) (h .is))

@@ -24,7 +24,7 @@ use Rattle.moveline.specs.MoveFrame.{moveFrame, moveLine, cornersIn, moveOfFram
 use Rattle.frame.specs.AnswerFrame.{answerFrame, answerLine}
 use Rattle.moveline.specs.Reading.{refusalOfFrame, refusalOfLine, moveOfLine}
 use Rattle.frame.specs.AnswerOfLine.{answerOfLine}
-use Rattle.lines.specs.Lines.{linesFrom}
+use Rattle.lines.specs.Lines.{finished, unfinished, linesOf}
 use Rattle.lines.specs.Output.{output}
 use Rattle.lines.specs.Examples.{Example, text, examples}
 

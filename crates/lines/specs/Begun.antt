@@ -3,13 +3,14 @@
 --   begunBytes b   the bytes that b holds
 --   Holds b        b holds at most 283 bytes, and the unused ones are zero
 use mathlib.Core.Path.{_≡_}
-use mathlib.Core.List.{List, _++_}
-use Prim.Native.Nat.{ℕ, _-_, _≤_}
-use lib.ListN.{length, take, replicate}
+use mathlib.Core.List.{List}
+use Prim.Native.Nat.{ℕ, _≤_}
+use lib.ListN.{length, take}
+use Rattle.whole.specs.Padded.{padded}
 use Rattle.lines.specs.declared.Begun.{Begun}
 
 abbrev pub begunWith : List ℕ → Begun
-begunWith l = record { bytes = l ++ replicate (283 - length l) 0; count = length l }
+begunWith l = record { bytes = padded 283 0 l; count = length l }
 
 abbrev pub begunBytes : Begun → List ℕ
 begunBytes b = take (b .count) (b .bytes)
