@@ -5,7 +5,7 @@ use contract.Lifetimes.{Lfts}
 use denote.Ref.{now}
 use Rattle.whole.specs.Determined.{Determined}
 use Rattle.whole.proofs.Determination.{determined, both}
-use Rattle.checker.specs.declared.Written.{Written}
+use Rattle.frame.specs.declared.Written.{Written}
 use Rattle.checker.proofs.answer_line.Reads as answer-line
 use Rattle.checker.proofs.answer_lists.Reads as answer-lists
 use Rattle.checker.proofs.write_move.Reads as write-move

@@ -20,33 +20,34 @@ use Rattle.moves.proofs.Accepted.{accepted-yes}
 use Rattle.moves.proofs.Listed.{held-accepted, reading-none, reading-refusal, lists-accepted}
 use Rattle.moveline.specs.MoveFrame.{moveFrame, moveLine}
 use Rattle.frame.specs.AnswerFrame.{answerLine}
+use Rattle.frame.specs.Said.{wrote, refusalIn}
 use Rattle.moveline.proofs.FrameMove.{moveFrame-length}
-use Rattle.checker.specs.Entries.{written, refusalIn, spoken, spokenOut, writtenMove, writtenMoveOut}
+use Rattle.checker.specs.Entries.{spoken, spokenOut, writtenMove, writtenMoveOut}
 
 -- ---- an answer
 module _ (r : Answer) (out : List ℕ) where
-  pub spoken-narrow : length out < 45 → (written 1 0 ≡ spoken r (length out)) × (out ≡ spokenOut r out)
+  pub spoken-narrow : length out < 45 → (wrote 1 0 ≡ spoken r (length out)) × (out ≡ spokenOut r out)
   unfolding spoken spokenOut
   spoken-narrow h = let t = lt-ltb (length out) 45 h in (sym (rw t), sym (rw t))
 
-  pub spoken-wide : 45 ≤ length out → (written (refusalIn r) (length (answerLine r)) ≡ spoken r (length out)) × (over (answerLine r) out ≡ spokenOut r out)
+  pub spoken-wide : 45 ≤ length out → (wrote (refusalIn r) (length (answerLine r)) ≡ spoken r (length out)) × (over (answerLine r) out ≡ spokenOut r out)
   unfolding spoken spokenOut
   spoken-wide h = let t = le-ltb (length out) 45 h in (sym (rw t), sym (rw t))
 
 -- ---- a move handed in as lists
 module _ (xs ys : List ℤ) (va vb : Corner) (T : ℤ) where
   module _ (out : List ℕ) where
-    pub move-narrow : length out < 283 → (written 1 0 ≡ writtenMove xs ys va vb T (length out)) × (out ≡ writtenMoveOut xs ys va vb T out)
+    pub move-narrow : length out < 283 → (wrote 1 0 ≡ writtenMove xs ys va vb T (length out)) × (out ≡ writtenMoveOut xs ys va vb T out)
     unfolding writtenMove writtenMoveOut
     move-narrow h = let t = lt-ltb (length out) 283 h in (sym (rw t), sym (rw t))
 
     pub move-refused : 283 ≤ length out → refusalOfLists xs ys va vb T ≢ 0 →
-        (written (refusalOfLists xs ys va vb T) 0 ≡ writtenMove xs ys va vb T (length out)) × (out ≡ writtenMoveOut xs ys va vb T out)
+        (wrote (refusalOfLists xs ys va vb T) 0 ≡ writtenMove xs ys va vb T (length out)) × (out ≡ writtenMoveOut xs ys va vb T out)
     unfolding writtenMove writtenMoveOut
     move-refused h n = let t = le-ltb (length out) 283 h in let u = ne-eqb (refusalOfLists xs ys va vb T) 0 n in (sym (rw (t, u)), sym (rw (t, u)))
 
     pub move-written : 283 ≤ length out → refusalOfLists xs ys va vb T ≡ 0 →
-        (written 0 (length (moveLine (moveOfLists xs ys va vb T))) ≡ writtenMove xs ys va vb T (length out)) × (over (moveLine (moveOfLists xs ys va vb T)) out ≡ writtenMoveOut xs ys va vb T out)
+        (wrote 0 (length (moveLine (moveOfLists xs ys va vb T))) ≡ writtenMove xs ys va vb T (length out)) × (over (moveLine (moveOfLists xs ys va vb T)) out ≡ writtenMoveOut xs ys va vb T out)
     unfolding writtenMove writtenMoveOut
     move-written h e = let t = le-ltb (length out) 283 h in let u = eq-eqb (refusalOfLists xs ys va vb T) 0 e in (sym (rw (t, u)), sym (rw (t, u)))
 

@@ -1,9 +1,11 @@
 -- What the entry points that write a line answer, and every byte of the lent output afterwards.
---   refusalIn r                          the number of an answer's refusal, or 0
 --   spoken r room                        for an answer r and so many bytes lent: refusal 1 under 45, else the answer's refusal and its line's length
 --   spokenOut r out                      the lent bytes afterwards: the answer line over the first of them, the others as they were
 --   writtenMove .. room                  for a move line: refusal 1 under 283, else the lists' refusal, else the line's length
 --   writtenMoveOut .. out                the lent bytes afterwards
+--   Speaks r w out out′                  a call that returns w and leaves out′ of the lent bytes out has done the former for the answer r
+--   WritesMove .. w out out′             it has done the latter
+use mathlib.Core.Path.{_≡_}
 use mathlib.Core.Bool.{cond}
 use mathlib.Core.List.{List}
 use Prim.Native.Nat.{ℕ}
@@ -15,30 +17,27 @@ use Rattle.plane.specs.declared.Corner.{Corner}
 use Rattle.moves.specs.Move.{moveOfLists}
 use Rattle.moves.specs.Refusal.{refusalOfLists}
 use Rattle.verdict.specs.declared.Answer.{Answer}
-use Rattle.verdict.specs.declared.Answer.the-variants.{ClearByOne, ClearByTwo, Contact, Refused}
 use Rattle.moveline.specs.MoveFrame.{moveLine}
 use Rattle.frame.specs.AnswerFrame.{answerLine}
-use Rattle.checker.specs.declared.Written.{Written}
-
-abbrev pub written : ℕ → ℕ → Written
-written r n = record { refusal = r; bytes = n }
-
-abbrev pub refusalIn : Answer → ℕ
-refusalIn (ClearByOne k) = 0
-refusalIn (ClearByTwo i j) = 0
-refusalIn (Contact e) = 0
-refusalIn (Refused r) = r
+use Rattle.frame.specs.Said.{wrote, refusalIn}
+use Rattle.frame.specs.declared.Written.{Written}
 
 unfoldable pub spoken : Answer → ℕ → Written
-spoken r room = cond (ltb room 45) (written 1 0) (written (refusalIn r) (length (answerLine r)))
+spoken r room = cond (ltb room 45) (wrote 1 0) (wrote (refusalIn r) (length (answerLine r)))
 
 unfoldable pub spokenOut : Answer → List ℕ → List ℕ
 spokenOut r out = cond (ltb (length out) 45) out (over (answerLine r) out)
 
 unfoldable pub writtenMove : List ℤ → List ℤ → Corner → Corner → ℤ → ℕ → Written
 writtenMove xs ys va vb T room =
-    cond (ltb room 283) (written 1 0)
-    (cond (eqb (refusalOfLists xs ys va vb T) 0) (written 0 (length (moveLine (moveOfLists xs ys va vb T)))) (written (refusalOfLists xs ys va vb T) 0))
+    cond (ltb room 283) (wrote 1 0)
+    (cond (eqb (refusalOfLists xs ys va vb T) 0) (wrote 0 (length (moveLine (moveOfLists xs ys va vb T)))) (wrote (refusalOfLists xs ys va vb T) 0))
 
 unfoldable pub writtenMoveOut : List ℤ → List ℤ → Corner → Corner → ℤ → List ℕ → List ℕ
 writtenMoveOut xs ys va vb T out = cond (ltb (length out) 283) out (cond (eqb (refusalOfLists xs ys va vb T) 0) (over (moveLine (moveOfLists xs ys va vb T)) out) out)
+
+abbrev pub Speaks : Answer → Written → List ℕ → List ℕ → Type 0
+Speaks r w out out′ = (w ≡ spoken r (length out)) × (out′ ≡ spokenOut r out)
+
+abbrev pub WritesMove : List ℤ → List ℤ → Corner → Corner → ℤ → Written → List ℕ → List ℕ → Type 0
+WritesMove xs ys va vb T w out out′ = (w ≡ writtenMove xs ys va vb T (length out)) × (out′ ≡ writtenMoveOut xs ys va vb T out)

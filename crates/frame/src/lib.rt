@@ -1,15 +1,22 @@
-// Answers to lines, and their frames.
+// Answers to lines and to lists, and their lines.
 ghost use mathlib.Core.Path.{_≡_};
 ghost use Prim.Native.Nat.{_≤_};
 ghost use lib.ListN.{length};
-ghost use Rattle.whole.specs.Padded.{over};
-ghost use Rattle.frame.specs.AnswerFrame.{answerLine};
+ghost use Rattle.verdict.specs.Answer.{answerOfLists};
 ghost use Rattle.frame.specs.AnswerOfLine.{answerOfLine};
+ghost use Rattle.frame.specs.Said.{refusalIn, Says};
 ghost use Rattle.frame.specs.Sayable.{Sayable};
 
-pub mod writer; // frames of answers
+mod writer; // frames of answers
 
+use plane::Corner;
 use verdict::Answer;
+
+// What a call that writes a line answers: the number of its refusal, 0 for none, and how many bytes it wrote.
+pub struct Written {
+    pub refusal: u8,
+    pub bytes: usize,
+}
 
 // The answer to a line that stands without its 0a: its refusal, or the verdict on its move.
 pub fn answer_of_line(line: &[u8]) -> Answer
@@ -19,20 +26,52 @@ pub fn answer_of_line(line: &[u8]) -> Answer
     verdict::answer_of(r)
 }
 
-// Writes the line of an answer at the start of `out`; the bytes after it stay. Returns its length.
-pub fn put_answer(out: &mut [u8], r: Answer) -> usize
-    requires { ⌜ Sayable r × (45 ≤ length (now out)) ⌝ }
-    ensures { λ n. ⌜ (n ≡ length (answerLine r)) × (now (out .exit) ≡ over (answerLine r) (now (out .entry))) ⌝ }
+// The number of an answer's refusal.
+fn refusal_of(r: Answer) -> u8
+    ensures { λ n. ⌜ n ≡ refusalIn r ⌝ }
 {
-    let f = writer::answer_frame(r);
-    hex::text::put_line(out, f)
+    match r {
+        Answer::ClearByOne(_) => 0,
+        Answer::ClearByTwo(_, _) => 0,
+        Answer::Contact(_) => 0,
+        Answer::Refused(n) => n,
+    }
 }
 
-// Writes the answer line of a line at the start of `out`; the bytes after it stay. Returns its length.
-pub fn put_answer_of_line(line: &[u8], out: &mut [u8]) -> usize
+// Writes the line of an answer at the start of `out`; the bytes after it stay. It is private: an answer line is written only by a call that works out its move.
+fn put_answer(r: Answer, out: &mut [u8]) -> Written
+    requires { ⌜ Sayable r × (45 ≤ length (now out)) ⌝ }
+    ensures { λ w. ⌜ Says r w (now (out .entry)) (now (out .exit)) ⌝ }
+{
+    let f = writer::answer_frame(r);
+    let n = hex::text::put_line(out, f);
+    Written {
+        refusal: refusal_of(r),
+        bytes: n,
+    }
+}
+
+// Writes the answer line of a line at the start of `out`; the bytes after it stay.
+pub fn put_answer_of_line(line: &[u8], out: &mut [u8]) -> Written
     requires { ⌜ 45 ≤ length (now out) ⌝ }
-    ensures { λ n. ⌜ (n ≡ length (answerLine (answerOfLine (now (line .entry))))) × (now (out .exit) ≡ over (answerLine (answerOfLine (now (line .entry)))) (now (out .entry))) ⌝ }
+    ensures { λ w. ⌜ Says (answerOfLine (now (line .entry))) w (now (out .entry)) (now (out .exit)) ⌝ }
 {
     let r = answer_of_line(line);
-    put_answer(out, r)
+    put_answer(r, out)
+}
+
+// The same for a move handed in as numbers: the coordinates x, y, x, y, .. of both outlines, their velocities and the limit.
+pub fn put_answer_of_lists(
+    a: &[i64],
+    b: &[i64],
+    va: Corner,
+    vb: Corner,
+    limit: i64,
+    out: &mut [u8],
+) -> Written
+    requires { ⌜ 45 ≤ length (now out) ⌝ }
+    ensures { λ w. ⌜ Says (answerOfLists (now (a .entry)) (now (b .entry)) va vb limit) w (now (out .entry)) (now (out .exit)) ⌝ }
+{
+    let r = verdict::answer_of_lists(a, b, va, vb, limit);
+    put_answer(r, out)
 }

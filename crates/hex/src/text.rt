@@ -2,10 +2,9 @@
 ghost use mathlib.Core.Path.{_≡_};
 ghost use Prim.Native.Nat.{_+_, _*_, _<_, _≤_};
 ghost use lib.ListN.{length};
-ghost use Rattle.whole.specs.Padded.{over};
 ghost use Rattle.hex.specs.Hex.{character, digit, hexLine};
 ghost use Rattle.hex.specs.Frame.{frameBytes, Whole};
-ghost use Rattle.hex.specs.Text.{decoded, noFrame};
+ghost use Rattle.hex.specs.Text.{decoded, noFrame, Puts};
 use super::Decoded;
 use super::Frame;
 
@@ -90,7 +89,7 @@ pub fn decode(line: &[u8]) -> Decoded
 // Writes the line of a frame at the start of `out`; the bytes after it stay. Returns its length.
 pub fn put_line(out: &mut [u8], f: Frame) -> usize
     requires { ⌜ Whole f × (2 * f .count + 1 ≤ length (now out)) ⌝ }
-    ensures { λ r. ⌜ (r ≡ length (hexLine (frameBytes f))) × (now (out .exit) ≡ over (hexLine (frameBytes f)) (now (out .entry))) ⌝ }
+    ensures { λ n. ⌜ Puts (hexLine (frameBytes f)) n (now (out .entry)) (now (out .exit)) ⌝ }
 {
     let n = f.count;
     let mut i: usize = 0;

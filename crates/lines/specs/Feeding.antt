@@ -2,9 +2,12 @@
 --   answersRoom n    room for the answers to a part of n bytes: an answer line has at most 7 bytes for each byte of its line and its 0a,
 --                    283 bytes of the first may have come before, and 45 are lent to each answer
 --   fed u s          what stands begun after the part s, and the length of the answers to the lines that it closes
+--   Feeds u s r out out′    a call that returns r and leaves out′ of the lent bytes out has fed the part s: the answers are written over the first bytes of out
+use mathlib.Core.Path.{_≡_}
 use Prim.Native.Nat.{ℕ, _+_, _*_}
 use mathlib.Core.List.{List}
 use lib.ListN.{length}
+use Rattle.whole.specs.Padded.{over}
 use Rattle.lines.specs.Lines.{unfinished}
 use Rattle.lines.specs.Stream.{answersTo, kept}
 use Rattle.lines.specs.Begun.{begunWith}
@@ -15,3 +18,6 @@ answersRoom n = 7 * (283 + n) + 45
 
 abbrev pub fed : List ℕ → List ℕ → Fed
 fed u s = record { begun = begunWith (kept (unfinished u s)); written = length (answersTo u s) }
+
+abbrev pub Feeds : List ℕ → List ℕ → Fed → List ℕ → List ℕ → Type 0
+Feeds u s r out out′ = (r ≡ fed u s) × (out′ ≡ over (answersTo u s) out)

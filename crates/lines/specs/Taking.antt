@@ -3,6 +3,8 @@
 --   lineAt s at    the line that starts at `at`, without its 0a
 --   isAt s at      a byte is left at `at`, so there is a line
 --   nextAt s at    where the line after it starts
+--   Takes s at l at′ some    a call that shows the part l, moves at to at′ and says `some` has taken the line at `at` off s
+use mathlib.Core.Path.{_≡_}
 use mathlib.Core.Bool.{Bool, cond}
 use mathlib.Core.List.{List, [], _∷_}
 use Prim.Native.Nat.{ℕ, _+_, min}
@@ -21,3 +23,6 @@ isAt s at = ltb at (length s)
 
 abbrev pub nextAt : List ℕ → ℕ → ℕ
 nextAt s at = cond (isAt s at) (min (at + length (lineAt s at) + 1) (length s)) at
+
+abbrev pub Takes : List ℕ → ℕ → List ℕ → ℕ → Bool → Type 0
+Takes s at l at′ some = (l ≡ lineAt s at) × (at′ ≡ nextAt s at) × (some ≡ isAt s at)

@@ -2,7 +2,7 @@
 ghost use mathlib.Core.Path.{_≡_};
 ghost use Prim.Native.Nat.{_+_, _≤_, min};
 ghost use lib.ListN.{length};
-ghost use Rattle.lines.specs.Taking.{lineAt, isAt, nextAt};
+ghost use Rattle.lines.specs.Taking.{lineAt, Takes};
 
 pub mod stream; // the answers to an input that comes in parts
 
@@ -47,7 +47,7 @@ fn past(input: &[u8], end: usize) -> usize
 // Takes the line at `at` off the input: it is shown as that part of the input, `at` moves past it and its 0a,
 // and `some` says whether a byte was left. Where none was, the part is empty, which a blank line's is too: `some` tells them apart.
 pub fn take_line<'a>(input: &'a [u8], at: &mut usize, some: &mut bool) -> &'a [u8]
-    ensures { λ r. ⌜ (now r ≡ lineAt (now (input .entry)) (now (at .entry))) × (now (at .exit) ≡ nextAt (now (input .entry)) (now (at .entry))) × (now (some .exit) ≡ isAt (now (input .entry)) (now (at .entry))) ⌝ }
+    ensures { λ r. ⌜ Takes (now (input .entry)) (now (at .entry)) (now r) (now (at .exit)) (now (some .exit)) ⌝ }
 {
     let from = *at;
     *some = from < input.len();

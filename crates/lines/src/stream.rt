@@ -3,11 +3,11 @@ ghost use mathlib.Core.Path.{_≡_};
 ghost use mathlib.Core.List.{[], _++_};
 ghost use Prim.Native.Nat.{_≤_};
 ghost use lib.ListN.{length};
-ghost use Rattle.whole.specs.Padded.{over};
+ghost use Rattle.hex.specs.Text.{Puts};
 ghost use Rattle.lines.specs.Output.{answerTo};
-ghost use Rattle.lines.specs.Stream.{answersTo, kept, lastAnswer};
+ghost use Rattle.lines.specs.Stream.{kept, lastAnswer};
 ghost use Rattle.lines.specs.Begun.{begunWith, begunBytes, Holds};
-ghost use Rattle.lines.specs.Feeding.{answersRoom, fed};
+ghost use Rattle.lines.specs.Feeding.{answersRoom, Feeds};
 use super::Begun;
 use super::Fed;
 
@@ -46,22 +46,24 @@ fn extended(b: Begun, piece: &[u8]) -> Begun
 // Writes the answer to the line begun with b that the piece closes, and returns its length. Only a line of which a part came before is put together first.
 fn put_closed(b: Begun, piece: &[u8], out: &mut [u8]) -> usize
     requires { ⌜ Holds b × (45 ≤ length (now out)) ⌝ }
-    ensures { λ n. ⌜ (n ≡ length (answerTo (begunBytes b ++ now (piece .entry)))) × (now (out .exit) ≡ over (answerTo (begunBytes b ++ now (piece .entry))) (now (out .entry))) ⌝ }
+    ensures { λ n. ⌜ Puts (answerTo (begunBytes b ++ now (piece .entry))) n (now (out .entry)) (now (out .exit)) ⌝ }
 {
     let count = b.count;
     if count == 0 {
-        return frame::put_answer_of_line(piece, out);
+        let whole = frame::put_answer_of_line(piece, out);
+        return whole.bytes;
     }
     let e = extended(b, piece);
     let n = e.count;
     let bytes = e.bytes;
-    frame::put_answer_of_line(&bytes[..n], out)
+    let joined = frame::put_answer_of_line(&bytes[..n], out);
+    joined.bytes
 }
 
 // Takes the lines of a part of the input and writes their answers over the first bytes of `out`. The line that the part leaves open stands begun.
 pub fn feed(b: Begun, input: &[u8], out: &mut [u8]) -> Fed
     requires { ⌜ Holds b × (answersRoom (length (now input)) ≤ length (now out)) ⌝ }
-    ensures { λ r. ⌜ (r ≡ fed (begunBytes b) (now (input .entry))) × (now (out .exit) ≡ over (answersTo (begunBytes b) (now (input .entry))) (now (out .entry))) ⌝ }
+    ensures { λ r. ⌜ Feeds (begunBytes b) (now (input .entry)) r (now (out .entry)) (now (out .exit)) ⌝ }
 {
     let mut begun = b;
     let mut at: usize = 0;
@@ -84,12 +86,13 @@ pub fn feed(b: Begun, input: &[u8], out: &mut [u8]) -> Fed
 // Writes the answer to what stands begun at the end of the input, and returns its length: 0 where nothing does.
 pub fn finish(b: Begun, out: &mut [u8]) -> usize
     requires { ⌜ Holds b × (45 ≤ length (now out)) ⌝ }
-    ensures { λ n. ⌜ (n ≡ length (lastAnswer (begunBytes b))) × (now (out .exit) ≡ over (lastAnswer (begunBytes b)) (now (out .entry))) ⌝ }
+    ensures { λ n. ⌜ Puts (lastAnswer (begunBytes b)) n (now (out .entry)) (now (out .exit)) ⌝ }
 {
     let held = b.count;
     if held == 0 {
         return 0;
     }
     let bytes = b.bytes;
-    frame::put_answer_of_line(&bytes[..held], out)
+    let last = frame::put_answer_of_line(&bytes[..held], out);
+    last.bytes
 }

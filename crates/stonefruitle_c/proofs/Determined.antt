@@ -1,4 +1,5 @@
 -- The contracts of what is linked, as the source has them, are determined: two outcomes that one allows for the same input show the same number, the same length and the same lent bytes.
+use mathlib.Core.Path.{ap}
 use mathlib.Core.List.{List}
 use Prim.Native.Nat.{ℕ}
 use lib.IntN.{ℤ}
@@ -6,6 +7,7 @@ use contract.Lifetimes.{Lfts}
 use denote.Ref.{now}
 use Rattle.whole.specs.Determined.{Determined}
 use Rattle.whole.proofs.Determination.{determined, both, all-three}
+use Rattle.frame.specs.declared.Written.{Written}
 use Rattle.stonefruitle_c.proofs.stonefruitle_answer_line.Reads as answer-line
 use Rattle.stonefruitle_c.proofs.stonefruitle_answer_lists.Reads as answer-lists
 use Rattle.stonefruitle_c.proofs.stonefruitle_write_move.Reads as write-move
@@ -14,13 +16,13 @@ use Rattle.stonefruitle_c.proofs.stonefruitle_read_move.Reads as read-m
 use Rattle.stonefruitle_c.proofs.stonefruitle_test_outline.Reads as test-outline
 
 pub answer-line-determined : (κs : Lfts 3) → Determined {Y = ℕ × ℕ × List ℕ} (answer-line.Learnt κs) (λ r e. (r, now (e .1 .1 .0), now (e .1 .0)))
-answer-line-determined κs = determined (λ a r e p. all-three (p .0) (p .1) (p .2))
+answer-line-determined κs = determined (λ a r e p. all-three (ap (λ (w : Written). w .refusal) (p .0)) (ap (λ (w : Written). w .bytes) (p .0)) (p .1))
 
 pub answer-lists-determined : (κs : Lfts 4) → Determined {Y = ℕ × ℕ × List ℕ} (answer-lists.Learnt κs) (λ r e. (r, now (e .1 .1 .1 .1 .1 .1 .1 .1 .0), now (e .1 .1 .1 .1 .1 .1 .1 .0)))
-answer-lists-determined κs = determined (λ a r e p. all-three (p .0) (p .1) (p .2))
+answer-lists-determined κs = determined (λ a r e p. all-three (ap (λ (w : Written). w .refusal) (p .0)) (ap (λ (w : Written). w .bytes) (p .0)) (p .1))
 
 pub write-move-determined : (κs : Lfts 4) → Determined {Y = ℕ × ℕ × List ℕ} (write-move.Learnt κs) (λ r e. (r, now (e .1 .1 .1 .1 .1 .1 .1 .1 .0), now (e .1 .1 .1 .1 .1 .1 .1 .0)))
-write-move-determined κs = determined (λ a r e p. all-three (p .0) (p .1) (p .2))
+write-move-determined κs = determined (λ a r e p. all-three (ap (λ (w : Written). w .refusal) (p .0)) (ap (λ (w : Written). w .bytes) (p .0)) (p .1))
 
 pub read-line-determined : (κs : Lfts 1) → Determined (read-line.Learnt κs) (λ r e. r)
 read-line-determined κs = determined (λ a r e p. p)

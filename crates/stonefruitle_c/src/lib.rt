@@ -1,14 +1,14 @@
 // What C and Rust link: the checker's entry points under C names. A slice is a pointer and a length; include/stonefruitle.h declares them.
 // Each returns the number of its refusal, 0 for none.
 ghost use mathlib.Core.Path.{_≡_};
-ghost use lib.ListN.{length};
 ghost use Rattle.plane.specs.Point.{point};
 ghost use Rattle.outline.specs.Refusal.{refusalOfOutline};
 ghost use Rattle.verdict.specs.Answer.{answerOfLists};
 ghost use Rattle.frame.specs.AnswerOfLine.{answerOfLine};
 ghost use Rattle.moveline.specs.Reading.{refusalOfLine, readingOfLine};
 ghost use Rattle.stonefruitle_c.specs.Numbers.{numbers};
-ghost use Rattle.checker.specs.Entries.{spoken, spokenOut, writtenMove, writtenMoveOut};
+ghost use Rattle.frame.specs.Said.{wrote};
+ghost use Rattle.checker.specs.Entries.{Speaks, WritesMove};
 
 mod numbers; // a move as a list of numbers
 
@@ -17,7 +17,7 @@ use plane::Corner;
 // The answer to a line, which stands without its 0a, into `out`, and its length into `written`: 0 where `out` has no room for it.
 #[no_mangle]
 pub extern "C" fn stonefruitle_answer_line(line: &[u8], out: &mut [u8], written: &mut usize) -> u8
-    ensures { λ r. ⌜ (r ≡ spoken (answerOfLine (now (line .entry))) (length (now (out .entry))) .refusal) × (now (written .exit) ≡ spoken (answerOfLine (now (line .entry))) (length (now (out .entry))) .bytes) × (now (out .exit) ≡ spokenOut (answerOfLine (now (line .entry))) (now (out .entry))) ⌝ }
+    ensures { λ r. ⌜ Speaks (answerOfLine (now (line .entry))) (wrote r (now (written .exit))) (now (out .entry)) (now (out .exit)) ⌝ }
 {
     let w = checker::answer_line(line, out);
     *written = w.bytes;
@@ -37,7 +37,7 @@ pub extern "C" fn stonefruitle_answer_lists(
     out: &mut [u8],
     written: &mut usize,
 ) -> u8
-    ensures { λ r. ⌜ (r ≡ spoken (answerOfLists (now (a .entry)) (now (b .entry)) (point vax vay) (point vbx vby) limit) (length (now (out .entry))) .refusal) × (now (written .exit) ≡ spoken (answerOfLists (now (a .entry)) (now (b .entry)) (point vax vay) (point vbx vby) limit) (length (now (out .entry))) .bytes) × (now (out .exit) ≡ spokenOut (answerOfLists (now (a .entry)) (now (b .entry)) (point vax vay) (point vbx vby) limit) (now (out .entry))) ⌝ }
+    ensures { λ r. ⌜ Speaks (answerOfLists (now (a .entry)) (now (b .entry)) (point vax vay) (point vbx vby) limit) (wrote r (now (written .exit))) (now (out .entry)) (now (out .exit)) ⌝ }
 {
     let va = Corner { x: vax, y: vay };
     let vb = Corner { x: vbx, y: vby };
@@ -59,7 +59,7 @@ pub extern "C" fn stonefruitle_write_move(
     out: &mut [u8],
     written: &mut usize,
 ) -> u8
-    ensures { λ r. ⌜ (r ≡ writtenMove (now (a .entry)) (now (b .entry)) (point vax vay) (point vbx vby) limit (length (now (out .entry))) .refusal) × (now (written .exit) ≡ writtenMove (now (a .entry)) (now (b .entry)) (point vax vay) (point vbx vby) limit (length (now (out .entry))) .bytes) × (now (out .exit) ≡ writtenMoveOut (now (a .entry)) (now (b .entry)) (point vax vay) (point vbx vby) limit (now (out .entry))) ⌝ }
+    ensures { λ r. ⌜ WritesMove (now (a .entry)) (now (b .entry)) (point vax vay) (point vbx vby) limit (wrote r (now (written .exit))) (now (out .entry)) (now (out .exit)) ⌝ }
 {
     let va = Corner { x: vax, y: vay };
     let vb = Corner { x: vbx, y: vby };

@@ -1,32 +1,37 @@
--- Every answer to lists fits its frame, so it can be spoken.
-use mathlib.Core.Path.{sym, _∙_, ap, subst}
-use lib.ListN.{length}
+-- The test of the room is the definition's own; where there is room, the line of the answer is put.
+use mathlib.Core.Path.{_∙_}
+use native.Mathlib.Omega.{arith}
 use mir.Facts.{toZ-ofZ}
-use borrow.Author.Needs.{needs}
 use Rattle.verdict.specs.Answer.{answerOfLists}
-use Rattle.frame.specs.Sayable.{Sayable}
-use Rattle.frame.proofs.Says.{sayable-lists}
-use Rattle.checker.specs.Entries.{spoken, spokenOut}
+use Rattle.checker.proofs.Writing.{spoken-narrow, spoken-wide}
+use borrow.Author.Needs.{needs}
 use Rattle.checker.proofs.answer_lists.Statement.{statement}
 use Rattle.checker.proofs.answer_lists.Tie as tie
 
-answer-of-lists-requires : tie.Need-answer-of-lists-requires
-answer-of-lists-requires c κs = search needs
+no-room-requires : tie.Need-no-room-requires
+no-room-requires c κs = search needs
 
-speak-requires : tie.Need-speak-requires
-speak-requires c κs = subst Sayable (sym (c .before .answer-of-lists .ensures)) (sayable-lists _ _ _ _ _)
+returns : tie.Need-returns
+returns c =
+    let a = c .before .before .before .args in
+    let is = spoken-narrow (answerOfLists (a .a .now) (a .b .now) (a .va) (a .vb) (a .limit)) (a .out .now) (omega arith) in
+    (c .no-room .ensures ∙ is .0, is .1)
+
+put-answer-of-lists-requires : tie.Need-put-answer-of-lists-requires
+put-answer-of-lists-requires c κs = search needs
 
 same-length : tie.Need-same-length
 same-length c = search needs
 
-returns : tie.Need-returns
-returns c =
-    let s = c .before .before .before .before in
-    let a = s .before .before .args in
-    let put = c .before .before .speak .ensures in
-    let is = s .answer-of-lists .ensures ∙ ap (answerOfLists (a .a .now) (a .b .now) (a .va) (a .vb)) (toZ-ofZ (s .before .before .fits .limit)) in
-    (put .0 ∙ ap (λ r. spoken r (length (a .out .now))) is, put .1 ∙ ap (λ r. spokenOut r (a .out .now)) is)
+returns-2 : tie.Need-returns-2
+returns-2 c =
+    let s = c .before .before .before .before .before .before in
+    let a = s .args in
+    let put = rw (toZ-ofZ (s .fits .limit)) at (c .before .before .put-answer-of-lists .ensures) in
+    let is = spoken-wide (answerOfLists (a .a .now) (a .b .now) (a .va) (a .vb) (a .limit)) (a .out .now) (omega arith) in
+    (put .0 ∙ is .0, put .1 ∙ is .1)
 
 pub answer-lists-spec : {M : Type 1} → statement M
 answer-lists-spec =
-    tie.close (tie.spec answer-of-lists-requires speak-requires same-length returns)
+    tie.close
+    (tie.spec no-room-requires returns put-answer-of-lists-requires same-length returns-2)

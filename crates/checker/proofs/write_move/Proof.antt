@@ -12,24 +12,31 @@ use Rattle.moves.specs.Reading.{readingOfLists}
 use Rattle.moveline.specs.MoveFrame.{moveFrame, moveLine}
 use Rattle.hex.specs.Frame.{framed, frameBytes, Whole}
 use Rattle.hex.proofs.Pushing.{framed-bytes, framed-whole}
-use Rattle.checker.specs.Entries.{written}
+use Rattle.frame.specs.Said.{wrote}
 use Rattle.checker.proofs.Writing.{move-narrow, move-refused, move-written, read-refusal, read-fit, read-move, read-short}
 use Rattle.checker.proofs.write_move.Statement.{statement}
 use Rattle.checker.proofs.write_move.Tie as tie
 use Rattle.checker.proofs.write_move.Reads as reads
 use Rattle.checker.proofs.write_move.Lts as lts
 use Rattle.moveline.proofs.writer.move_frame.Reads as move-frame-reads
+use Rattle.checker.proofs.no_room.Reads as no-room-reads
 use Rattle.hex.proofs.text.put_line.Reads as put-line-reads
 use Rattle.moves.proofs.lists.read_lists.Reads as read-lists-reads
 
 -- what was read, with the limit as it was handed in
-the-reading : (c : lts.After-read-lists (read-lists-reads.Asked, read-lists-reads.Learnt, move-frame-reads.Asked, move-frame-reads.Learnt, put-line-reads.Asked, put-line-reads.Learnt) reads.Pre reads.Post) → c .read-lists .result ≡ readingOfLists (c .before .before .before .args .a .now) (c .before .before .before .args .b .now) (c .before .before .before .args .va) (c .before .before .before .args .vb) (c .before .before .before .args .limit)
+the-reading : (c : lts.After-read-lists (no-room-reads.Asked, no-room-reads.Learnt, read-lists-reads.Asked, read-lists-reads.Learnt, move-frame-reads.Asked, move-frame-reads.Learnt, put-line-reads.Asked, put-line-reads.Learnt) reads.Pre reads.Post) → c .read-lists .result ≡ readingOfLists (c .before .before .before .args .a .now) (c .before .before .before .args .b .now) (c .before .before .before .args .va) (c .before .before .before .args .vb) (c .before .before .before .args .limit)
 the-reading c =
     let s = c .before .before .before in
     c .read-lists .ensures ∙ ap (readingOfLists (s .args .a .now) (s .args .b .now) (s .args .va) (s .args .vb)) (toZ-ofZ (s .fits .limit))
 
+no-room-requires : tie.Need-no-room-requires
+no-room-requires c κs = search needs
+
 returns : tie.Need-returns
-returns c = let s = c .before .before .args in move-narrow (s .a .now) (s .b .now) (s .va) (s .vb) (s .limit) (s .out .now) (c .if1 .taken)
+returns c =
+    let s = c .before .before .before .args in
+    let is = move-narrow (s .a .now) (s .b .now) (s .va) (s .vb) (s .limit) (s .out .now) (c .before .if1 .taken) in
+    (c .no-room .ensures ∙ is .0, is .1)
 
 read-lists-requires : tie.Need-read-lists-requires
 read-lists-requires c κs = search needs
@@ -40,7 +47,7 @@ returns-2 c =
     let s = r .before .before .before .args in
     let number = read-refusal _ _ _ _ _ _ (the-reading r) in
     let is = move-refused (s .a .now) (s .b .now) (s .va) (s .vb) (s .limit) (s .out .now) (r .before .if1 .left) (λ e. c .if2 .taken (number ∙ e)) in
-    (ap (λ n. written n 0) number ∙ is .0, is .1)
+    (ap (λ n. wrote n 0) number ∙ is .0, is .1)
 
 move-frame-requires : tie.Need-move-frame-requires
 move-frame-requires c κs = read-fit _ _ _ _ _ _ (the-reading (c .before .before .before)) (c .before .if2 .left)
@@ -68,12 +75,13 @@ returns-3 c =
     let is = move-written (s .a .now) (s .b .now) (s .va) (s .vb) (s .limit) (s .out .now) (r .before .if1 .left) (sym (read-refusal _ _ _ _ _ _ (the-reading r)) ∙ none) in
     let bytes = ap frameBytes (f .move-frame .ensures ∙ ap (λ x. framed (moveFrame x)) (read-move _ _ _ _ _ _ (the-reading r) none)) ∙ framed-bytes (moveFrame m) in
     let put = c .before .before .put-line .ensures in
-    (ap (written 0) (put .0 ∙ ap (λ b. length (hexLine b)) bytes) ∙ is .0, put .1 ∙ ap (λ b. over (hexLine b) (s .out .now)) bytes ∙ is .1)
+    (ap (wrote 0) (put .0 ∙ ap (λ b. length (hexLine b)) bytes) ∙ is .0, put .1 ∙ ap (λ b. over (hexLine b) (s .out .now)) bytes ∙ is .1)
 
 pub write-move-spec : {M : Type 1} → statement M
 write-move-spec =
     tie.close
     (tie.spec
+    no-room-requires
     returns
     read-lists-requires
     returns-2

@@ -1,11 +1,9 @@
--- The answer to a line fits its frame, so it can be put, and what is put is its line.
-use mathlib.Core.Path.{sym, _∙_, ap, subst}
-use mathlib.Core.List.{_++_}
-use lib.ListN.{length, drop}
-use borrow.Author.Needs.{needs}
-use Rattle.frame.specs.AnswerFrame.{answerLine}
+-- The answer to a line fits its frame, so it can be put.
+use mathlib.Core.Path.{sym, subst}
+use Rattle.frame.specs.Said.{Says}
 use Rattle.frame.specs.Sayable.{Sayable}
 use Rattle.frame.proofs.Says.{sayable-line}
+use borrow.Author.Needs.{needs}
 use Rattle.frame.proofs.put_answer_of_line.Statement.{statement}
 use Rattle.frame.proofs.put_answer_of_line.Tie as tie
 
@@ -20,10 +18,8 @@ same-length c = search needs
 
 returns : tie.Need-returns
 returns c =
-    let put = c .before .before .put-answer .ensures in
-    let is = c .before .before .before .before .answer-of-line .ensures in
     let out = c .before .before .before .before .before .before .before .args .out .now in
-    (put .0 ∙ ap (λ r. length (answerLine r)) is, put .1 ∙ ap (λ r. answerLine r ++ drop (length (answerLine r)) out) is)
+    subst (λ r. Says r (c .before .before .put-answer .result) out (c .before .before .put-answer .last .1 .0)) (c .before .before .before .before .answer-of-line .ensures) (c .before .before .put-answer .ensures)
 
 pub put-answer-of-line-spec : {M : Type 1} → statement M
 put-answer-of-line-spec =

@@ -1,7 +1,5 @@
 -- The checker's answer in its two parts: the refusal is returned, the length written.
-use mathlib.Core.Path.{ap}
 use borrow.Author.Needs.{needs}
-use Rattle.checker.specs.declared.Written.{Written}
 use Rattle.stonefruitle_c.proofs.stonefruitle_answer_line.Statement.{statement}
 use Rattle.stonefruitle_c.proofs.stonefruitle_answer_line.Tie as tie
 
@@ -12,9 +10,7 @@ same-length : tie.Need-same-length
 same-length c = search needs
 
 returns : tie.Need-returns
-returns c =
-    let is = c .before .before .answer-line .ensures in
-    (ap (λ (w : Written). w .refusal) (is .0), ap (λ (w : Written). w .bytes) (is .0), is .1)
+returns c = c .before .before .answer-line .ensures
 
 pub stonefruitle-answer-line-spec : {M : Type 1} → statement M
 stonefruitle-answer-line-spec = tie.close (tie.spec answer-line-requires same-length returns)

@@ -5,6 +5,7 @@ use Prim.Native.Nat.{ℕ}
 use lib.ListN.{length, drop}
 use borrow.Author.Needs.{needs}
 use borrow.Author.Tests.{eq-eqb, ne-eqb}
+use Rattle.frame.specs.declared.Written.{Written}
 use Rattle.frame.specs.AnswerFrame.{answerLine}
 use Rattle.frame.specs.AnswerOfLine.{answerOfLine}
 use Rattle.lines.specs.Stream.{lastAnswer}
@@ -43,7 +44,7 @@ returns-2 c =
     let s = c .before .before .before .before .before .before .before .before in
     let put = c .before .before .put-answer-of-line in
     let some = last-some _ (λ e. c .before .before .before .before .before .before .if1 .left (sym (held-count (s .args .b) (s .pre .0)) ∙ e)) in
-    (put .ensures .0 ∙ ap length (sym some), put .ensures .1 ∙ ap (λ l. l ++ drop (length l) (s .args .out .now)) (sym some))
+    (ap (λ (w : Written). w .bytes) (put .ensures .0) ∙ ap length (sym some), put .ensures .1 ∙ ap (λ l. l ++ drop (length l) (s .args .out .now)) (sym some))
 
 pub finish-spec : {M : Type 1} → statement M
 finish-spec =

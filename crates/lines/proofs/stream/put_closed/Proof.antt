@@ -3,6 +3,7 @@ use mathlib.Core.Path.{_≡_, sym, _∙_, ap}
 use mathlib.Core.List.{[], _++_}
 use lib.ListN.{length}
 use Rattle.whole.specs.Padded.{over}
+use Rattle.frame.specs.declared.Written.{Written}
 use Rattle.frame.specs.AnswerFrame.{answerLine}
 use Rattle.lines.specs.Output.{answerTo}
 use Rattle.lines.specs.Stream.{kept}
@@ -24,7 +25,7 @@ returns c =
     let s = c .before .before .before .before .before .before .before in
     let none : begunBytes (s .args .b) ≡ [] = none-held (s .args .b) (s .pre .0) (c .before .before .before .before .if1 .taken) in
     let put = c .before .before .put-answer-of-line in
-    (put .ensures .0 ∙ ap (λ l. length (answerTo (l ++ s .args .piece .now))) (sym none), put .ensures .1 ∙ ap (λ l. over (answerTo (l ++ s .args .piece .now)) (s .args .out .now)) (sym none))
+    (ap (λ (w : Written). w .bytes) (put .ensures .0) ∙ ap (λ l. length (answerTo (l ++ s .args .piece .now))) (sym none), put .ensures .1 ∙ ap (λ l. over (answerTo (l ++ s .args .piece .now)) (s .args .out .now)) (sym none))
 
 extended-requires : tie.Need-extended-requires
 extended-requires c κs = search needs
@@ -48,7 +49,7 @@ returns-2 c =
     let bytes : begunBytes (c .before .before .before .before .before .before .extended .result) ≡ kept l = ap begunBytes (c .before .before .before .before .before .before .extended .ensures) ∙ begun-bytes (kept l) in
     let same : answerTo (begunBytes (c .before .before .before .before .before .before .extended .result)) ≡ answerTo l = ap answerTo bytes ∙ ap answerLine (answer-kept l) in
     let put = c .before .before .put-answer-of-line2 in
-    (put .ensures .0 ∙ ap length same, put .ensures .1 ∙ ap (λ a. over a (s .args .out .now)) same)
+    (ap (λ (w : Written). w .bytes) (put .ensures .0) ∙ ap length same, put .ensures .1 ∙ ap (λ a. over a (s .args .out .now)) same)
 
 pub put-closed-spec : {M : Type 1} → statement M
 put-closed-spec =
