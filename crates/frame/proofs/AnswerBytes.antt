@@ -5,8 +5,8 @@ use Prim.Native.Nat.{_≤_}
 use native.Mathlib.Omega.{arith}
 use lib.ListN.{length}
 use Rattle.verdict.specs.Answer.{showingNumbers}
-use Rattle.verdict.specs.declared.Showing.{Showing}
-use Rattle.verdict.specs.declared.Showing.the-variants.{CornerOfA, CornerOfB, Edges}
+use Rattle.showing.specs.declared.Showing.{Showing}
+use Rattle.showing.specs.declared.Showing.the-variants.{CornerOfA, CornerOfB, Edges}
 use Rattle.verdict.specs.declared.Answer.{Answer}
 use Rattle.verdict.specs.declared.Answer.the-variants.{ClearByOne, ClearByTwo, Contact, Refused}
 use Rattle.frame.specs.AnswerFrame.{answerFrame}

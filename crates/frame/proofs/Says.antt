@@ -25,7 +25,7 @@ use Rattle.plane.specs.declared.Corner.{Corner}
 use Rattle.moves.specs.Move.{Move, moveOfLists}
 use Rattle.moves.specs.HeldMove.{Fit, moveHeld, heldMove}
 use Rattle.verdict.specs.Span.{spans}
-use Rattle.verdict.specs.Showing.{cornerInside, meetingPair, showingOf, showing}
+use Rattle.showing.specs.Showing.{cornerInside, meetingPair, showingOf, showing}
 use Rattle.verdict.specs.Verdict.{verdictFrom, verdict}
 use Rattle.moves.specs.Refusal.{refusal, refusalOfLists}
 use Rattle.verdict.specs.Answer.{answerUnless, answerOfLists}
@@ -33,7 +33,7 @@ use Rattle.moves.specs.declared.HeldMove.{HeldMove}
 use Rattle.moves.proofs.Listed.{held-accepted, lists-accepted}
 use Rattle.verdict.proofs.SideSpans.{spans-length}
 use Rattle.verdict.proofs.FitSpans.{sideCount-is, spans-some, spans-made}
-use Rattle.verdict.proofs.ShowingLaws.{moved-length}
+use Rattle.showing.proofs.ShowingLaws.{moved-length}
 use Rattle.moveline.specs.Reading.{refusalOfLine, moveOfLine}
 use Rattle.frame.specs.AnswerOfLine.{answerOfLine}
 use Rattle.frame.specs.Sayable.{Sayable, SayableBearing, SayableShowing}

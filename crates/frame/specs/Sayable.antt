@@ -3,8 +3,8 @@ use Prim.Native.Nat.{_<_}
 use Rattle.whole.specs.Time.{Short}
 use Rattle.verdict.specs.declared.Bearing.{Bearing}
 use Rattle.verdict.specs.declared.Bearing.the-variants.{Side, None}
-use Rattle.verdict.specs.declared.Showing.{Showing}
-use Rattle.verdict.specs.declared.Showing.the-variants.{CornerOfA, CornerOfB, Edges}
+use Rattle.showing.specs.declared.Showing.{Showing}
+use Rattle.showing.specs.declared.Showing.the-variants.{CornerOfA, CornerOfB, Edges}
 use Rattle.verdict.specs.declared.Answer.{Answer}
 use Rattle.verdict.specs.declared.Answer.the-variants.{ClearByOne, ClearByTwo, Contact, Refused}
 

@@ -10,10 +10,10 @@ ghost use Rattle.frame.specs.AnswerFrame.{answerFrame};
 ghost use Rattle.frame.specs.Sayable.{Sayable, SayableBearing, SayableShowing};
 use hex::Frame;
 use hex::frames;
+use showing::Showing;
 use verdict::Answer;
 use verdict::Bearing;
 use verdict::Evidence;
-use verdict::Showing;
 
 // The frame f with the times, the bearing and the showing of a contact more.
 fn push_evidence(f: Frame, e: Evidence) -> Frame

@@ -14,7 +14,7 @@ use Rattle.outline.specs.Sound.{left, badEdge, isSound}
 use Rattle.outline.specs.Refusal.{firstThatApplies, counted, placed}
 use Rattle.verdict.specs.Sides.{sideOf}
 use Rattle.verdict.specs.Span.{span, spans}
-use Rattle.verdict.specs.Showing.{cornerInside, edgesMeet, meetingPair, showingOf, showing}
+use Rattle.showing.specs.Showing.{cornerInside, edgesMeet, meetingPair, showingOf, showing}
 use Rattle.verdict.specs.Verdict.{verdict}
 use Rattle.moves.specs.Refusal.{refusal}
 use Rattle.verdict.specs.Answer.{answerUnless}

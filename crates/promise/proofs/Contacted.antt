@@ -20,7 +20,7 @@ use Rattle.plane.proofs.Shown.{ShownByCorner}
 use Rattle.moves.specs.Move.{Move}
 use Rattle.verdict.specs.Sides.{sideCount}
 use Rattle.verdict.specs.Span.{span, spans}
-use Rattle.verdict.specs.Showing.{showing}
+use Rattle.showing.specs.Showing.{showing}
 use Rattle.span.specs.Outcome.{begin, end, spanAt, firstOf, lastOf, firstPlace, lastPlace}
 use Rattle.promise.specs.Promise.{InTime, MeetAt, ShownBy, ContactPromise}
 use Rattle.span.specs.declared.Span.{Span}

@@ -21,10 +21,10 @@ use Rattle.plane.proofs.Moved.{wide-moved}
 use Rattle.plane.proofs.Shown.{ShownByCorner, ShownByEdges, common-shown}
 use Rattle.plane.proofs.Placing.{corner-placed, edges-placed}
 use Rattle.moves.specs.Move.{Move}
-use Rattle.verdict.specs.Showing.{cornerInside, edgesMeet, meetingPair, showingOf}
+use Rattle.showing.specs.Showing.{cornerInside, edgesMeet, meetingPair, showingOf}
 use Rattle.promise.specs.Promise.{MeetAt, ShownBy}
-use Rattle.verdict.specs.declared.Showing.the-variants.{Edges}
-use Rattle.verdict.proofs.ShowingLaws.{shown-by-a, shown-by-b, shown-by-edges}
+use Rattle.showing.specs.declared.Showing.the-variants.{Edges}
+use Rattle.showing.proofs.ShowingLaws.{shown-by-a, shown-by-b, shown-by-edges}
 
 module _ (P Q : List Corner) where
   -- ---- the lowest corner

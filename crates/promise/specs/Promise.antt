@@ -17,8 +17,8 @@ use Rattle.plane.specs.Apart.{Apart}
 use Rattle.plane.specs.CommonPoint.{CommonPointAt}
 use Rattle.moves.specs.Move.{Move}
 use Rattle.verdict.specs.Sides.{sideCount, sideOf}
-use Rattle.verdict.specs.declared.Showing.{Showing}
-use Rattle.verdict.specs.declared.Showing.the-variants.{CornerOfA, CornerOfB, Edges}
+use Rattle.showing.specs.declared.Showing.{Showing}
+use Rattle.showing.specs.declared.Showing.the-variants.{CornerOfA, CornerOfB, Edges}
 use Rattle.verdict.specs.declared.Evidence.{Evidence}
 use Rattle.verdict.specs.declared.Answer.{Answer}
 use Rattle.verdict.specs.declared.Answer.the-variants.{ClearByOne, ClearByTwo, Contact, Refused}

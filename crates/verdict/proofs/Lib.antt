@@ -1,6 +1,5 @@
 pub mod SideSpans
 pub mod FitSpans
-pub mod ShowingLaws
 pub mod Answering
 pub mod Worked
 pub mod Determined

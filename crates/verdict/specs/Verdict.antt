@@ -10,7 +10,7 @@ use Rattle.span.specs.declared.Outcome.{Outcome}
 use Rattle.span.specs.declared.Outcome.the-variants.{ByOne, ByTwo, FromTo}
 use Rattle.moves.specs.Move.{Move}
 use Rattle.verdict.specs.Span.{spans}
-use Rattle.verdict.specs.Showing.{showing}
+use Rattle.showing.specs.Showing.{showing}
 use Rattle.verdict.specs.declared.Bearing.{Bearing}
 use Rattle.verdict.specs.declared.Bearing.the-variants.{Side, None}
 use Rattle.verdict.specs.declared.Answer.{Answer}

@@ -8,11 +8,11 @@ ghost use Rattle.verdict.specs.Answer.{answerUnless, answerOfLists};
 ghost use Rattle.moves.specs.Reading.{Readable};
 
 mod spans; // the span of each side, and what all have in common
-mod shows; // what shows a common point
 
 use moves::HeldMove;
 use moves::Reading;
 use plane::Corner;
+use showing::Showing;
 use span::Lead;
 use span::Outcome;
 use whole::Time;
@@ -21,13 +21,6 @@ use whole::Time;
 pub enum Bearing {
     Side(usize),
     None,
-}
-
-// What shows a common point at first: a corner of A inside or on B, a corner of B inside or on A, or an edge of A and an edge of B that share a point.
-pub enum Showing {
-    CornerOfA(usize),
-    CornerOfB(usize),
-    Edges(usize, usize),
 }
 
 // The first and the last time of contact, with what shows it.
@@ -68,7 +61,7 @@ fn contact(m: HeldMove, first: Lead, last: Lead) -> Answer
         first: begin,
         last: end,
         bearing: bears(first),
-        showing: shows::showing(m, begin),
+        showing: showing::shows::showing(m, begin),
     })
 }
 

@@ -6,7 +6,7 @@ use lib.ListN.{getD}
 use mir.Syntax.{w64}
 use mir.Val.{toZ, ofZ}
 use borrow.Author.Needs.{needs}
-use Rattle.verdict.proofs.ShowingLaws.{short-value}
+use Rattle.showing.proofs.ShowingLaws.{short-value}
 use Rattle.stonefruitle_c.specs.Numbers.{heading}
 use Rattle.stonefruitle_c.proofs.numbers.head.Statement.{statement}
 use Rattle.stonefruitle_c.proofs.numbers.head.Tie as tie

@@ -14,8 +14,8 @@ use Rattle.plane.specs.Edges.{corner, next}
 use Rattle.plane.specs.Inside.{inside, meet}
 use Rattle.plane.specs.declared.Corner.{Corner}
 use Rattle.moves.specs.Move.{Move}
-use Rattle.verdict.specs.declared.Showing.{Showing}
-use Rattle.verdict.specs.declared.Showing.the-variants.{CornerOfA, CornerOfB, Edges}
+use Rattle.showing.specs.declared.Showing.{Showing}
+use Rattle.showing.specs.declared.Showing.the-variants.{CornerOfA, CornerOfB, Edges}
 
 unfoldable pub cornerInside : List Corner → List Corner → ℕ
 cornerInside P Q = lowest (λ i. inside Q (corner P i)) (length P)

@@ -10,9 +10,9 @@ use Rattle.whole.proofs.Ring.{reps, by-ring}
 use Rattle.whole.proofs.Machine.{vals, rep}
 use Rattle.plane.specs.Point.{point}
 use Rattle.plane.specs.declared.Corner.{Corner}
-use Rattle.verdict.proofs.ShowingLaws.{short-value, short-within}
-use Rattle.verdict.proofs.shows.moved.Statement.{statement}
-use Rattle.verdict.proofs.shows.moved.Tie as tie
+use Rattle.showing.proofs.ShowingLaws.{short-value, short-within}
+use Rattle.showing.proofs.shows.moved.Statement.{statement}
+use Rattle.showing.proofs.shows.moved.Tie as tie
 
 cast-n : tie.Need-cast-n
 cast-n c = search needs

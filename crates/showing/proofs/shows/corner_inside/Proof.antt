@@ -10,13 +10,13 @@ use Rattle.plane.specs.Edges.{corner}
 use Rattle.plane.specs.Motion.{moved, movedAll}
 use Rattle.plane.specs.Inside.{inside}
 use Rattle.outline.specs.Held.{cornersHeld}
-use Rattle.verdict.proofs.ShowingLaws.{held-corner-inside}
-use Rattle.verdict.proofs.shows.corner_inside.Statement.{statement}
-use Rattle.verdict.proofs.shows.corner_inside.Tie as tie
-use Rattle.verdict.proofs.shows.corner_inside.Reads as reads
-use Rattle.verdict.proofs.shows.corner_inside.Lts as lts
-use Rattle.verdict.proofs.shows.lies_inside.Reads as lies-inside-reads
-use Rattle.verdict.proofs.shows.moved.Reads as moved-reads
+use Rattle.showing.proofs.ShowingLaws.{held-corner-inside}
+use Rattle.showing.proofs.shows.corner_inside.Statement.{statement}
+use Rattle.showing.proofs.shows.corner_inside.Tie as tie
+use Rattle.showing.proofs.shows.corner_inside.Reads as reads
+use Rattle.showing.proofs.shows.corner_inside.Lts as lts
+use Rattle.showing.proofs.shows.lies_inside.Reads as lies-inside-reads
+use Rattle.showing.proofs.shows.moved.Reads as moved-reads
 
 abbrev Inv-loop : tie.InvT-loop
 Inv-loop u q v t p n i₀ i = (i ≤ n) × ((m : ℕ) → m < i → inside (movedAll (t .n) (t .d) v (cornersHeld q)) (moved (t .n) (t .d) u (corner (p .corners) m)) ≡ false)

@@ -9,10 +9,10 @@ use borrow.Author.Count.{below-none, below-more}
 use Rattle.whole.proofs.Indices.{lowest-is, lowest-none}
 use Rattle.plane.specs.Motion.{movedAll}
 use Rattle.outline.specs.Held.{cornersHeld}
-use Rattle.verdict.specs.Showing.{edgesMeet}
-use Rattle.verdict.proofs.ShowingLaws.{held-meeting-pair}
-use Rattle.verdict.proofs.shows.meeting_pair.Statement.{statement}
-use Rattle.verdict.proofs.shows.meeting_pair.Tie as tie
+use Rattle.showing.specs.Showing.{edgesMeet}
+use Rattle.showing.proofs.ShowingLaws.{held-meeting-pair}
+use Rattle.showing.proofs.shows.meeting_pair.Statement.{statement}
+use Rattle.showing.proofs.shows.meeting_pair.Tie as tie
 
 abbrev Inv-loop : tie.InvT-loop
 Inv-loop m t a b n pairs k₀ k =

@@ -7,11 +7,11 @@ use mir.Facts.{toZ-ofZ}
 use borrow.Author.Needs.{needs, sfits-of}
 use Rattle.whole.specs.Best.{betterOf}
 use Rattle.plane.specs.Point.{dot}
-use Rattle.verdict.proofs.ShowingLaws.{before-meets, after-meets}
-use Rattle.verdict.proofs.shows.meets_in.Statement.{statement}
-use Rattle.verdict.proofs.shows.meets_in.Tie as tie
-use Rattle.verdict.proofs.shows.meets_in.Reads as reads
-use Rattle.verdict.proofs.shows.meets_in.Lts as lts
+use Rattle.showing.proofs.ShowingLaws.{before-meets, after-meets}
+use Rattle.showing.proofs.shows.meets_in.Statement.{statement}
+use Rattle.showing.proofs.shows.meets_in.Tie as tie
+use Rattle.showing.proofs.shows.meets_in.Reads as reads
+use Rattle.showing.proofs.shows.meets_in.Lts as lts
 use Rattle.plane.proofs.dot.Reads as dot-reads
 use Rattle.whole.proofs.greater.Reads as greater-reads
 use Rattle.whole.proofs.lesser.Reads as lesser-reads

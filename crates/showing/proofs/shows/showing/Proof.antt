@@ -2,11 +2,11 @@
 use mathlib.Core.Path.{sym, _∙_, ap, ap₂, subst₂}
 use Prim.Native.Nat.{_≤_, _<_, _/_, _%_}
 use borrow.Author.Needs.{needs}
-use Rattle.verdict.specs.Showing.{showing}
-use Rattle.verdict.specs.declared.Showing.the-variants.{CornerOfA, CornerOfB, Edges}
-use Rattle.verdict.proofs.ShowingLaws.{moved-length, shown-by-a, shown-by-b, shown-by-edges}
-use Rattle.verdict.proofs.shows.showing.Statement.{statement}
-use Rattle.verdict.proofs.shows.showing.Tie as tie
+use Rattle.showing.specs.Showing.{showing}
+use Rattle.showing.specs.declared.Showing.the-variants.{CornerOfA, CornerOfB, Edges}
+use Rattle.showing.proofs.ShowingLaws.{moved-length, shown-by-a, shown-by-b, shown-by-edges}
+use Rattle.showing.proofs.shows.showing.Statement.{statement}
+use Rattle.showing.proofs.shows.showing.Tie as tie
 
 corner-inside-requires : tie.Need-corner-inside-requires
 corner-inside-requires c κs = search needs

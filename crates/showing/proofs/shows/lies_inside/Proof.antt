@@ -10,14 +10,14 @@ use borrow.Author.Count.{below-none, below-more}
 use Rattle.whole.proofs.Indices.{every-true, every-false}
 use Rattle.plane.specs.Point.{step, cross}
 use Rattle.plane.specs.Edges.{corner}
-use Rattle.verdict.proofs.ShowingLaws.{rightOf, held-inside}
-use Rattle.verdict.proofs.shows.lies_inside.Statement.{statement}
-use Rattle.verdict.proofs.shows.lies_inside.Tie as tie
-use Rattle.verdict.proofs.shows.lies_inside.Reads as reads
-use Rattle.verdict.proofs.shows.lies_inside.Lts as lts
+use Rattle.showing.proofs.ShowingLaws.{rightOf, held-inside}
+use Rattle.showing.proofs.shows.lies_inside.Statement.{statement}
+use Rattle.showing.proofs.shows.lies_inside.Tie as tie
+use Rattle.showing.proofs.shows.lies_inside.Reads as reads
+use Rattle.showing.proofs.shows.lies_inside.Lts as lts
 use Rattle.outline.proofs.next.Reads as next-reads
-use Rattle.verdict.proofs.shows.is_right.Reads as is-right-reads
-use Rattle.verdict.proofs.shows.moved.Reads as moved-reads
+use Rattle.showing.proofs.shows.is_right.Reads as is-right-reads
+use Rattle.showing.proofs.shows.moved.Reads as moved-reads
 
 abbrev Inv-loop : tie.InvT-loop
 Inv-loop v t p q n j₀ j = (j ≤ n) × ((m : ℕ) → m < j → rightOf q (t .n) (t .d) v p m ≡ false)

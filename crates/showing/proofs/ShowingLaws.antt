@@ -32,8 +32,8 @@ use Rattle.plane.proofs.Moved.{corner-moved, edge-moved, shares-scaled}
 use Rattle.outline.specs.Held.{Kept, Held, cornersHeld}
 use Rattle.outline.specs.declared.Outline.{Outline}
 use Rattle.outline.proofs.Places.{held-length, held-corner, held-edge}
-use Rattle.verdict.specs.Showing.{cornerInside, edgesMeet, meetingPair, showingOf}
-use Rattle.verdict.specs.declared.Showing.the-variants.{CornerOfA, CornerOfB, Edges}
+use Rattle.showing.specs.Showing.{cornerInside, edgesMeet, meetingPair, showingOf}
+use Rattle.showing.specs.declared.Showing.the-variants.{CornerOfA, CornerOfB, Edges}
 
 -- ---- a short number, read as a signed one
 pub short-value : (n : ℕ) → n < 2 ^ 32 → toZ w64 n ≡ pos n

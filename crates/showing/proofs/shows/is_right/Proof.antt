@@ -9,8 +9,8 @@ use Rattle.whole.proofs.Bound.{bounds, fits}
 use Rattle.whole.proofs.Ring.{reps, by-ring}
 use Rattle.whole.proofs.Machine.{vals, rep}
 use Rattle.plane.specs.Point.{step, cross}
-use Rattle.verdict.proofs.shows.is_right.Statement.{statement}
-use Rattle.verdict.proofs.shows.is_right.Tie as tie
+use Rattle.showing.proofs.shows.is_right.Statement.{statement}
+use Rattle.showing.proofs.shows.is_right.Tie as tie
 
 sub-result : tie.Need-sub-result
 sub-result c = fits (search bounds depth 12) tt

@@ -11,7 +11,7 @@ ghost use Rattle.plane.specs.Motion.{moved, movedAll};
 ghost use Rattle.plane.specs.Inside.{inside, meetIn};
 ghost use Rattle.outline.specs.Held.{Held, cornersHeld};
 ghost use Rattle.moves.specs.HeldMove.{Fit, moveHeld};
-ghost use Rattle.verdict.specs.Showing.{cornerInside, edgesMeet, meetingPair, showing};
+ghost use Rattle.showing.specs.Showing.{cornerInside, edgesMeet, meetingPair, showing};
 use super::Showing;
 use moves::HeldMove;
 use outline::Outline;

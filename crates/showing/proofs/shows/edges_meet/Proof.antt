@@ -7,16 +7,16 @@ use Rattle.plane.specs.Motion.{moved, movedAll}
 use Rattle.plane.specs.Edges.{corner, next, edge}
 use Rattle.plane.specs.Near.{Near}
 use Rattle.outline.specs.Held.{cornersHeld}
-use Rattle.verdict.specs.Showing.{edgesMeet}
-use Rattle.verdict.proofs.ShowingLaws.{meetWith, held-edges-meet, side-near}
-use Rattle.verdict.proofs.shows.edges_meet.Statement.{statement}
-use Rattle.verdict.proofs.shows.edges_meet.Tie as tie
-use Rattle.verdict.proofs.shows.edges_meet.Reads as reads
-use Rattle.verdict.proofs.shows.edges_meet.Lts as lts
+use Rattle.showing.specs.Showing.{edgesMeet}
+use Rattle.showing.proofs.ShowingLaws.{meetWith, held-edges-meet, side-near}
+use Rattle.showing.proofs.shows.edges_meet.Statement.{statement}
+use Rattle.showing.proofs.shows.edges_meet.Tie as tie
+use Rattle.showing.proofs.shows.edges_meet.Reads as reads
+use Rattle.showing.proofs.shows.edges_meet.Lts as lts
 use Rattle.outline.proofs.next.Reads as next-reads
 use Rattle.outline.proofs.side.Reads as side-reads
-use Rattle.verdict.proofs.shows.meets_in.Reads as meets-in-reads
-use Rattle.verdict.proofs.shows.moved.Reads as moved-reads
+use Rattle.showing.proofs.shows.meets_in.Reads as meets-in-reads
+use Rattle.showing.proofs.shows.moved.Reads as moved-reads
 
 next-requires : tie.Need-next-requires
 next-requires c κs = search needs
