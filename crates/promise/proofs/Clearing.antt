@@ -16,7 +16,7 @@ use Rattle.verdict.specs.Sides.{sideCount, sideOf, sharesAt}
 use Rattle.verdict.specs.Span.{spans}
 use Rattle.span.specs.InSpan.{InSpan}
 use Rattle.span.specs.Outcome.{begin, end, spanAt, firstOf, lastOf, firstPlace, lastPlace}
-use Rattle.promise.specs.Promise.{InTime, MeetAt, ApartAt, Promise}
+use Rattle.promise.specs.Promise.{InTime, MeetAt, ApartAt, clear-by-one, clear-by-two, Promise}
 use Rattle.span.specs.declared.Span.{Span}
 use Rattle.span.specs.declared.Span.the-variants.{Empty, Between}
 use Rattle.verdict.specs.declared.Answer.the-variants.{ClearByOne, ClearByTwo}
@@ -52,7 +52,7 @@ module _ (m : Move) (wa : Wide (m .a)) (wb : Wide (m .b)) where
   pub promise-by-one : (k : ℕ) → k < sideCount m → spanAt (spans m) k ≡ Empty → Promise m (ClearByOne k)
   promise-by-one k h e =
       let out : (n d : ℕ) → ¬ InSpan (time n d) (spanAt (spans m) k) = λ n d. outside-empty (time n d) (spanAt (spans m) k) e in
-      (λ n d t. outside-never n d t k h (out n d), h, λ n d t. outside-apart n d t k h (out n d))
+      clear-by-one (λ n d t. outside-never n d t k h (out n d)) h (λ n d t. outside-apart n d t k h (out n d))
 
   module _ (a : AllFull (spans m)) (e : before (lastOf (spans m)) (firstOf (spans m)) ≡ true) where
     -- each time is before the greatest begin or after the least end, and so outside the span of the side that has it
@@ -70,9 +70,6 @@ module _ (m : Move) (wa : Wide (m .a)) (wb : Wide (m .b)) where
     pub promise-by-two : Promise m (ClearByTwo (firstPlace (spans m)) (lastPlace (spans m)))
     promise-by-two =
         let i : firstPlace (spans m) < sideCount m = omega (arith, firstPlace-at (spans m) a .0, spans-length m) in
-        let j : lastPlace (spans m) < sideCount m = omega (arith, lastPlace-at (spans m) a .0, spans-length m) in (
-          λ n d t. ⊎-elim (outside-never n d t (firstPlace (spans m)) i) (outside-never n d t (lastPlace (spans m)) j) (outside-two n d t),
-          i,
-          j,
-          λ n d t. ⊎-elim (λ o. inl (outside-apart n d t (firstPlace (spans m)) i o)) (λ o. inr (outside-apart n d t (lastPlace (spans m)) j o)) (outside-two n d t),
-        )
+        let j : lastPlace (spans m) < sideCount m = omega (arith, lastPlace-at (spans m) a .0, spans-length m) in
+        clear-by-two (λ n d t. ⊎-elim (outside-never n d t (firstPlace (spans m)) i) (outside-never n d t (lastPlace (spans m)) j) (outside-two n d t)) i j
+        (λ n d t. ⊎-elim (λ o. inl (outside-apart n d t (firstPlace (spans m)) i o)) (λ o. inr (outside-apart n d t (lastPlace (spans m)) j o)) (outside-two n d t))

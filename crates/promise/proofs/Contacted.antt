@@ -3,8 +3,8 @@
 use mathlib.Core.Path.{_≡_, _∙_, ap, subst}
 use mathlib.Core.Bool.{false}
 use mathlib.Core.Logic.{_↔_, _⊎_, _≢_, inl, inr}
-use mathlib.Core.List.{List}
-use Prim.Native.Nat.{ℕ, _*_, _≤_, _<_}
+use mathlib.Core.List.{List, [], _∷_}
+use Prim.Native.Nat.{ℕ, _*_, _<_}
 use native.Mathlib.Decide.{ℕ-discrete}
 use native.Mathlib.Omega.{arith}
 use lib.IntN.{natAbs}
@@ -21,14 +21,15 @@ use Rattle.moves.specs.Move.{Move}
 use Rattle.verdict.specs.Sides.{sideCount}
 use Rattle.verdict.specs.Span.{span, spans}
 use Rattle.showing.specs.Showing.{showing}
+use Rattle.verdict.specs.Answer.{showingNumbers}
 use Rattle.span.specs.Outcome.{begin, end, spanAt, firstOf, lastOf, firstPlace, lastPlace}
-use Rattle.promise.specs.Promise.{InTime, MeetAt, ShownBy, ContactPromise}
+use Rattle.promise.specs.Promise.{InTime, MeetAt, ShownBy, PromiseIn}
 use Rattle.span.specs.declared.Span.{Span}
 use Rattle.span.specs.declared.Span.the-variants.{Empty, Between}
-use Rattle.verdict.specs.declared.Bearing.{Bearing}
 use Rattle.span.proofs.Windows.{Good}
 use Rattle.verdict.proofs.SideSpans.{spans-length, spans-at, spans-good}
 use Rattle.span.proofs.Firsts.{AllFull, first-proper, last-proper, firstPlace-at, lastPlace-at, in-all}
+use Rattle.promise.proofs.ByCase.{contact-kept}
 use Rattle.promise.proofs.Meeting.{meet-spans}
 use Rattle.promise.proofs.Touching.{touch-corner}
 use Rattle.promise.proofs.Showed.{showing-shown}
@@ -87,7 +88,7 @@ module _ (m : Move) (wa : Wide (m .a)) (wb : Wide (m .b)) (a : AllFull (spans m)
     first-meets : MeetAt m (first .n) (first .d)
     first-meets = meet-from-to (first .n) (first .d) first-in-time .1 (before-irrefl first, in-order)
 
-    first-shown : ShownBy m (first .n) (first .d) (showing m first)
+    first-shown : ShownBy m (first .n) (first .d) (showingNumbers (showing m first))
     unfolding showing
     first-shown = showing-shown m wa wb (first .n) (first .d) (first-in-time .0) first-meets (go (ℕ-discrete (firstOf (spans m) .n) 0))
       where
@@ -105,9 +106,10 @@ module _ (m : Move) (wa : Wide (m .a)) (wb : Wide (m .b)) (a : AllFull (spans m)
             let e : firstOf (spans m) ≡ begin (span m (firstPlace (spans m))) = s .1 ∙ ap begin (spans-at m (firstPlace (spans m)) h) in
             inr (touch-corner m wa wb (firstPlace (spans m)) h first (first-in-time .0) (subst (λ t. first .n * t .d ≡ t .n * first .d) e (reduced-same (firstOf (spans m) .n) (firstOf (spans m) .d))) (subst (λ t. t .n ≢ 0) e above) first-meets)
 
-    pub promise-contact : (b : Bearing) → ContactPromise m (record { first = first; last = last; bearing = b; showing = showing m first })
+    pub promise-contact : (b : ℕ) → PromiseIn m 2 (first .n ∷ first .d ∷ last .n ∷ last .d ∷ []) (b ∷ showingNumbers (showing m first))
     promise-contact b =
-        record {
+        contact-kept m first last b (showing m first)
+        (record {
           first-reduced = first-reduced;
           first-in-time = first-in-time;
           first-meets = first-meets;
@@ -116,4 +118,4 @@ module _ (m : Move) (wa : Wide (m .a)) (wb : Wide (m .b)) (a : AllFull (spans m)
           last-meets = meet-from-to (last .n) (last .d) last-in-time .1 (in-order, before-irrefl last);
           between = λ n d t c. meet-from-to n d t .0 c;
           shown = first-shown;
-        }
+        })

@@ -1,3 +1,4 @@
+pub mod ByCase
 pub mod SideTimes
 pub mod Meeting
 pub mod Clearing

@@ -1,9 +1,10 @@
 -- The promise of the verdict: what it says of an accepted move is so. A sound outline is wide, and of wide outlines each of the three answers is right.
---   promise           of the verdict of an accepted move
---   promise-unless    of the answer to it, by a refusal that is 0
---   promise-lists     of the answer to a move that is handed in as lists
---   contact-exactly   the verdict is a contact exactly when the outlines meet at some time from 0 to the limit
-use mathlib.Core.Path.{_≡_, refl, subst}
+--   promise                  of the verdict of an accepted move
+--   promise-unless           of the answer to it, by a refusal that is 0
+--   promise-lists            of the answer to a move that is handed in as lists
+--   contact-exactly          the verdict is a contact exactly when the outlines meet at some time from 0 to the limit
+--   contact-exactly-lists    so is the answer to lists
+use mathlib.Core.Path.{_≡_}
 use mathlib.Core.Bool.{true}
 use mathlib.Core.Logic.{_↔_}
 use mathlib.Core.List.{List}
@@ -25,12 +26,12 @@ use Rattle.verdict.specs.Verdict.{verdictFrom, verdict}
 use Rattle.moves.specs.Refusal.{refusal, refusalOfLists}
 use Rattle.verdict.specs.Answer.{answerUnless, answerOfLists}
 use Rattle.verdict.specs.declared.Evidence.{Evidence}
-use Rattle.verdict.specs.declared.Answer.{Answer}
-use Rattle.verdict.specs.declared.Answer.the-variants.{ClearByOne, ClearByTwo, Contact, Refused}
+use Rattle.verdict.specs.declared.Answer.the-variants.{Contact}
 use Rattle.moves.proofs.Accepted.{accepted-yes}
 use Rattle.moves.proofs.Listed.{lists-accepted}
 use Rattle.verdict.proofs.SideSpans.{spans-length, spans-good}
-use Rattle.promise.specs.Promise.{InTime, MeetAt, Promise}
+use Rattle.promise.specs.Promise.{MeetInTime, Promise}
+use Rattle.promise.proofs.ByCase.{contact-meets}
 use Rattle.promise.proofs.Clearing.{promise-by-one, promise-by-two}
 use Rattle.promise.proofs.Contacted.{promise-contact}
 
@@ -61,14 +62,8 @@ unfolding answerOfLists
 promise-lists xs ys va vb T e = promise-unless (refusalOfLists xs ys va vb T) (moveOfLists xs ys va vb T) e (lists-accepted xs ys va vb T e)
 
 -- ---- contact
-pub contact-exactly : (m : Move) → refusal m ≡ 0 → ((e : Evidence) × (verdict m ≡ Contact e)) ↔ ((n : ℕ) × (d : ℕ) × InTime m n d × MeetAt m n d)
-contact-exactly m z = (
-  λ (e, is). let c = subst (Promise m) is (promise m z) in (e .first .n, e .first .d, c .first-in-time, c .first-meets),
-  λ (n, d, t, c). go n d t c (verdict m) refl (promise m z),
-)
-  where
-    go : (n d : ℕ) → InTime m n d → MeetAt m n d → (r : Answer) → verdict m ≡ r → Promise m r → (e : Evidence) × (verdict m ≡ Contact e)
-    go n d t c (ClearByOne k) is p = absurd (p .0 n d t c)
-    go n d t c (ClearByTwo i j) is p = absurd (p .0 n d t c)
-    go n d t c (Contact e) is p = (e, is)
-    go n d t c (Refused r) is p = absurd p
+pub contact-exactly : (m : Move) → refusal m ≡ 0 → ((e : Evidence) × (verdict m ≡ Contact e)) ↔ MeetInTime m
+contact-exactly m z = contact-meets m (verdict m) (promise m z)
+
+pub contact-exactly-lists : (xs ys : List ℤ) (va vb : Corner) (T : ℤ) → refusalOfLists xs ys va vb T ≡ 0 → ((e : Evidence) × (answerOfLists xs ys va vb T ≡ Contact e)) ↔ MeetInTime (moveOfLists xs ys va vb T)
+contact-exactly-lists xs ys va vb T z = contact-meets (moveOfLists xs ys va vb T) (answerOfLists xs ys va vb T) (promise-lists xs ys va vb T z)

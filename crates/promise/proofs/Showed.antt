@@ -1,9 +1,9 @@
 -- The showing at a time at which two wide outlines meet is right. One of the three tests passes there, so the lowest corner or pair that is looked for is found;
 -- what it names carries the weights of a common point. Edges are named only where no corner shows one, and so not where the outlines come to touch.
-use mathlib.Core.Path.{_≡_, refl, sym, _∙_, ap, ap₂, subst}
+use mathlib.Core.Path.{_≡_, refl, _∙_, ap, ap₂}
 use mathlib.Core.Bool.{Bool, true, false}
 use mathlib.Core.Logic.{_⊎_, ⊎-elim}
-use mathlib.Core.List.{List}
+use mathlib.Core.List.{List, [], _∷_}
 use Prim.Native.Nat.{ℕ, _+_, _*_, _/_, _%_, _≤_, _<_}
 use native.Mathlib.Nat.{mul-le-mul-right, mod-lt, mod-eq-of-lt, div-eq-of-lt, div-lt-iff-lt-mul, add-mul-div-right, add-mul-mod-self-right}
 use native.Mathlib.Omega.{arith}
@@ -22,8 +22,8 @@ use Rattle.plane.proofs.Shown.{ShownByCorner, ShownByEdges, common-shown}
 use Rattle.plane.proofs.Placing.{corner-placed, edges-placed}
 use Rattle.moves.specs.Move.{Move}
 use Rattle.showing.specs.Showing.{cornerInside, edgesMeet, meetingPair, showingOf}
-use Rattle.promise.specs.Promise.{MeetAt, ShownBy}
-use Rattle.showing.specs.declared.Showing.the-variants.{Edges}
+use Rattle.verdict.specs.Answer.{showingNumbers}
+use Rattle.promise.specs.Promise.{MeetAt, ShownBy, corner-of-a, corner-of-b, edges}
 use Rattle.showing.proofs.ShowingLaws.{shown-by-a, shown-by-b, shown-by-edges}
 
 module _ (P Q : List Corner) where
@@ -78,29 +78,32 @@ module _ (m : Move) (wa : Wide (m .a)) (wb : Wide (m .b)) (n d : ℕ) (hd : 1 �
   length-b = length-map (m .b) (moved n d (m .vb))
 
   module _ (z : (n ≡ 0) ⊎ (ShownByCorner A B ⊎ ShownByCorner B A)) where
-    by-edges : length A ≤ cornerInside A B → length B ≤ cornerInside B A → ShownBy m n d (Edges (meetingPair A B / length B) (meetingPair A B % length B))
+    by-edges : length A ≤ cornerInside A B → length B ≤ cornerInside B A → ShownBy m n d (2 ∷ meetingPair A B / length B ∷ meetingPair A B % length B ∷ [])
     unfolding edgesMeet
     by-edges h k =
         let no-a : ¬ ShownByCorner A B = λ s. omega (arith, cornerInside-found A B s) in
         let no-b : ¬ ShownByCorner B A = λ s. omega (arith, cornerInside-found B A s) in
         let found = ⊎-elim (λ s. absurd (no-a s)) (⊎-elim (λ s. absurd (no-b s)) (meetingPair-found A B)) (common-shown A B wide-a wide-b c) in
         let e = meetingPair-yes A B (wide-b .some) found in
-        rw (← length-a, ← length-b)
-        (⊎-elim (λ e. e) (⊎-elim (λ s. absurd (no-a s)) (λ s. absurd (no-b s))) z, e .0, e .1, edges-placed A B (meetingPair A B / length B) (meetingPair A B % length B) (e .0) (e .1) (e .2))
+        let i = meetingPair A B / length B in
+        let j = meetingPair A B % length B in
+        let p = edges-placed A B i j (e .0) (e .1) (e .2) in
+        edges {i = i} {j = j} (⊎-elim (λ e. e) (⊎-elim (λ s. absurd (no-a s)) (λ s. absurd (no-b s))) z) (rw (← length-a) (e .0)) (rw (← length-b) (e .1)) (p .0) (rw (← length-a) (p .1)) (rw (← length-b) (p .2))
 
-    pub showing-shown : ShownBy m n d (showingOf A B)
+    pub showing-shown : ShownBy m n d (showingNumbers (showingOf A B))
     unfolding common-flip
     showing-shown = go (ltb (cornerInside A B) (length A)) (ltb (cornerInside B A) (length B)) refl refl
       where
-        go : (p q : Bool) → ltb (cornerInside A B) (length A) ≡ p → ltb (cornerInside B A) (length B) ≡ q → ShownBy m n d (showingOf A B)
+        go : (p q : Bool) → ltb (cornerInside A B) (length A) ≡ p → ltb (cornerInside B A) (length B) ≡ q → ShownBy m n d (showingNumbers (showingOf A B))
         go true q e f =
             let h = ltb-true (cornerInside A B) (length A) e in
-            subst (ShownBy m n d) (sym (shown-by-a A B h)) (omega (arith, length-a), corner-placed A B wide-b (cornerInside A B) h (cornerInside-yes A B h))
+            let p = corner-placed A B wide-b (cornerInside A B) h (cornerInside-yes A B h) in
+            rw (shown-by-a A B h) (corner-of-a {i = cornerInside A B} (omega (arith, length-a)) (p .0) (p .1))
         go false true e f =
             let k = ltb-true (cornerInside B A) (length B) f in
             let p = corner-placed B A wide-a (cornerInside B A) k (cornerInside-yes B A k) in
-            subst (ShownBy m n d) (sym (shown-by-b A B (ltb-false _ _ e) k)) (omega (arith, length-b), (common-flip (p .0), p .1))
+            rw (shown-by-b A B (ltb-false _ _ e) k) (corner-of-b {j = cornerInside B A} (omega (arith, length-b)) (common-flip (p .0)) (p .1))
         go false false e f =
             let h = ltb-false (cornerInside A B) (length A) e in
             let k = ltb-false (cornerInside B A) (length B) f in
-            subst (ShownBy m n d) (sym (shown-by-edges A B h k)) (by-edges h k)
+            rw (shown-by-edges A B h k) (by-edges h k)
