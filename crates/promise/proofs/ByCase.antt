@@ -10,8 +10,8 @@ use Prim.Native.Nat.{ℕ}
 use native.Mathlib.Omega.{arith}
 use Rattle.moves.specs.Move.{Move}
 use Rattle.verdict.specs.Answer.{showingNumbers, caseOf}
-use Rattle.verdict.specs.declared.Showing.{Showing}
-use Rattle.verdict.specs.declared.Showing.the-variants.{CornerOfA, CornerOfB, Edges}
+use Rattle.showing.specs.declared.Showing.{Showing}
+use Rattle.showing.specs.declared.Showing.the-variants.{CornerOfA, CornerOfB, Edges}
 use Rattle.verdict.specs.declared.Evidence.{Evidence}
 use Rattle.verdict.specs.declared.Answer.{Answer}
 use Rattle.verdict.specs.declared.Answer.the-variants.{ClearByOne, ClearByTwo, Contact, Refused}

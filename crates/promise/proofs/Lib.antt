@@ -7,3 +7,4 @@ pub mod Showed
 pub mod Contacted
 pub mod Promised
 pub mod PromisedLine
+pub mod WrittenLine

@@ -1,1 +1,1 @@
-// What the answers say of the outlines themselves: definitions (specs/) and theorems (proofs/), no code. Nothing depends on this crate.
+// What the answers say of the outlines themselves, and that what is written for a move is one line that reads back: definitions (specs/) and theorems (proofs/), no code. Nothing depends on this crate.
