@@ -9,6 +9,11 @@ use frame::Written;
 use moves::Reading;
 use plane::Corner;
 
+// The longest answer line and the longest move line, with their 0a.
+const ANSWER_ROOM: usize = 45;
+
+const MOVE_ROOM: usize = 283;
+
 // Refusal 1: too few bytes are lent, and none is written.
 fn no_room() -> Written
     ensures { λ w. ⌜ w ≡ wrote 1 0 ⌝ }
@@ -24,7 +29,7 @@ fn no_room() -> Written
 pub fn answer_line(line: &[u8], out: &mut [u8]) -> Written
     ensures { λ w. ⌜ Speaks (answerOfLine (now (line .entry))) w (now (out .entry)) (now (out .exit)) ⌝ }
 {
-    if out.len() < 45 {
+    if out.len() < ANSWER_ROOM {
         return no_room();
     }
     frame::put_answer_of_line(line, out)
@@ -41,7 +46,7 @@ pub fn answer_lists(
 ) -> Written
     ensures { λ w. ⌜ Speaks (answerOfLists (now (a .entry)) (now (b .entry)) va vb limit) w (now (out .entry)) (now (out .exit)) ⌝ }
 {
-    if out.len() < 45 {
+    if out.len() < ANSWER_ROOM {
         return no_room();
     }
     frame::put_answer_of_lists(a, b, va, vb, limit, out)
@@ -58,7 +63,7 @@ pub fn write_move(
 ) -> Written
     ensures { λ w. ⌜ WritesMove (now (a .entry)) (now (b .entry)) va vb limit w (now (out .entry)) (now (out .exit)) ⌝ }
 {
-    if out.len() < 283 {
+    if out.len() < MOVE_ROOM {
         return no_room();
     }
     let r = moves::lists::read_lists(a, b, va, vb, limit);

@@ -57,12 +57,13 @@ fn contact(m: HeldMove, first: Lead, last: Lead) -> Answer
 {
     let begin = first.at;
     let end = last.at;
-    Answer::Contact(Evidence {
+    let evidence = Evidence {
         first: begin,
         last: end,
         bearing: bears(first),
         showing: showing::shows::showing(m, begin),
-    })
+    };
+    Answer::Contact(evidence)
 }
 
 // The verdict on a move, from what the spans of its sides have in common.

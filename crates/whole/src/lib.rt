@@ -39,7 +39,9 @@ pub fn before(s: Time, t: Time) -> bool
     requires { ⌜ Short s × Short t ⌝ }
     ensures { λ r. ⌜ r ≡ before s t ⌝ }
 {
-    s.n * t.d < t.n * s.d
+    let left = s.n * t.d;
+    let right = t.n * s.d;
+    left < right
 }
 
 // The lesser of a and b.

@@ -6,13 +6,13 @@ use Rattle.whole.proofs.Fractions.{short-cross}
 use Rattle.whole.proofs.before.Statement.{statement}
 use Rattle.whole.proofs.before.Tie as tie
 
-mul-result : tie.Need-mul-result
-mul-result c =
+mul-left : tie.Need-mul-left
+mul-left c =
     let a = c .before .before .args in
     omega (arith, short-cross (a .s) (a .t) (c .before .before .pre .0) (c .before .before .pre .1))
 
-mul-result-2 : tie.Need-mul-result-2
-mul-result-2 c =
+mul-right : tie.Need-mul-right
+mul-right c =
     let a = c .before .before .before .before .args in
     omega (arith, short-cross (a .t) (a .s) (c .before .before .before .before .pre .1) (c .before .before .before .before .pre .0))
 
@@ -21,4 +21,4 @@ unfolding before
 returns c = refl
 
 pub before-spec : {M : Type 1} → statement M
-before-spec = tie.close (tie.spec mul-result mul-result-2 returns)
+before-spec = tie.close (tie.spec mul-left mul-right returns)
