@@ -24,9 +24,11 @@ use Rattle.plane.specs.Inside.{inside}
 use Rattle.plane.specs.declared.Corner.{Corner}
 use Rattle.moves.specs.Move.{Move, moveOfLists}
 use Rattle.moves.specs.HeldMove.{Fit, moveHeld, heldMove}
+use Rattle.plane.specs.Interval.{touches}
+use Rattle.verdict.specs.Sides.{sideCount, sideOf}
 use Rattle.verdict.specs.Span.{spans}
 use Rattle.showing.specs.Showing.{cornerInside, meetingPair, showingOf, showing}
-use Rattle.verdict.specs.Verdict.{verdictFrom, verdict}
+use Rattle.verdict.specs.Verdict.{touchingSide, verdictFrom, verdict}
 use Rattle.moves.specs.Refusal.{refusal, refusalOfLists}
 use Rattle.verdict.specs.Answer.{answerUnless, answerOfLists}
 use Rattle.moves.specs.declared.HeldMove.{HeldMove}
@@ -71,6 +73,12 @@ module _ (h : HeldMove) (f : Fit h) where
       let few-b = f .held-b .kept .count in
       omega (arith, lowest-bound t (length l), spans-length (moveHeld h), sideCount-is h f)
 
+  touching-few : touchingSide (moveHeld h) < 256
+  touching-few =
+      let few-a = f .held-a .kept .count in
+      let few-b = f .held-b .kept .count in
+      omega (arith, lowest-bound (λ k. touches (sideOf (moveHeld h) k) (moveHeld h .a) (moveHeld h .b)) (sideCount (moveHeld h)), sideCount-is h f)
+
   sayable-contact : (first last : Lead) → first .place < 256 → Comparable (first .at) × Comparable (last .at) → Sayable (verdictFrom (moveHeld h) (FromTo first last))
   unfolding showing
   sayable-contact first last few t =
@@ -79,7 +87,7 @@ module _ (h : HeldMove) (f : Fit h) where
       let some-b = f .some-b in
       let long-a = moved-length (h .a) (f .held-a .kept) (first .at .n) (first .at .d) (h .va) in
       let long-b = moved-length (h .b) (f .held-b .kept) (first .at .n) (first .at .d) (h .vb) in
-      (t .0 .1, t .1 .1, cond-by SayableBearing (eqb (first .at .n) 0) _ _ (λ e. tt) (λ e. few), sayable-showing _ _ (omega arith) (omega arith) (omega arith))
+      (t .0 .1, t .1 .1, cond-by SayableBearing (eqb (first .at .n) 0) _ _ (λ e. cond-by SayableBearing (ltb (touchingSide (moveHeld h)) (sideCount (moveHeld h))) _ _ (λ t. touching-few) (λ t. tt)) (λ e. few), sayable-showing _ _ (omega arith) (omega arith) (omega arith))
 
   pub sayable-verdict : Sayable (verdict (moveHeld h))
   unfolding verdict

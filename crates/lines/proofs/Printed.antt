@@ -8,7 +8,7 @@ use Rattle.whole.specs.Time.{before, same, reduced}
 use Rattle.span.specs.Window.{windowAhead, windowStill, window}
 use Rattle.span.specs.Outcome.{outcome}
 use Rattle.plane.specs.Point.{cross, dot}
-use Rattle.plane.specs.Interval.{low, high, shares}
+use Rattle.plane.specs.Interval.{low, high, shares, touches}
 use Rattle.plane.specs.Inside.{inside, meet}
 use Rattle.outline.specs.Sound.{left, badEdge, isSound}
 use Rattle.outline.specs.Refusal.{firstThatApplies, counted, placed}
@@ -29,7 +29,7 @@ use Rattle.lines.specs.Output.{output}
 use Rattle.lines.specs.Examples.{Example, text, examples}
 
 pub printed : map (λ (e : Example). output (e .given)) examples ≡ map (λ (e : Example). e .printed) examples
-unfolding lowest every best before same reduced cross dot low high shares inside meet left badEdge isSound firstThatApplies counted placed sideOf windowAhead windowStill window span table spans cornerInside edgesMeet meetingPair showingOf showing outcome verdict refusal answerUnless character digit hex unhex digits cornersIn moveOfFrame answerFrame answerLine refusalOfFrame refusalOfLine moveOfLine answerOfLine finished unfinished linesOf output text flatMap
+unfolding lowest every best before same reduced cross dot low high shares touches inside meet left badEdge isSound firstThatApplies counted placed sideOf windowAhead windowStill window span table spans cornerInside edgesMeet meetingPair showingOf showing outcome verdict refusal answerUnless character digit hex unhex digits cornersIn moveOfFrame answerFrame answerLine refusalOfFrame refusalOfLine moveOfLine answerOfLine finished unfinished linesOf output text flatMap
 printed = refl
 
 pub given : map (λ (e : Example). e .given) examples ≡ map (λ (c : Case). moveLine (c .asked)) cases

@@ -2,11 +2,12 @@
 --   low D A        the least dot product of D with a corner of A
 --   high D A       the greatest
 --   shares D A B   the intervals of A and B in the direction D share a value
-use mathlib.Core.Bool.{Bool, _&&_}
+--   touches D A B  they share exactly one value: the greater of the two lows equals the lesser of the two highs
+use mathlib.Core.Bool.{Bool, not, _&&_}
 use mathlib.Core.List.{List, map}
 use lib.IntN.{ℤ, pos}
 use lib.Signed.{ltZ, leZ}
-use Rattle.whole.specs.Best.{best}
+use Rattle.whole.specs.Best.{betterOf, best}
 use Rattle.plane.specs.Point.{dot}
 use Rattle.plane.specs.declared.Corner.{Corner}
 
@@ -18,3 +19,9 @@ high D A = best (λ a b. ltZ b a) (pos 0) (map (dot D) A)
 
 unfoldable pub shares : Corner → List Corner → List Corner → Bool
 shares D A B = leZ (low D A) (high D B) && leZ (low D B) (high D A)
+
+unfoldable pub touches : Corner → List Corner → List Corner → Bool
+touches D A B =
+    let greaterLow = betterOf (λ a b. ltZ b a) (low D A) (low D B) in
+    let lesserHigh = betterOf ltZ (high D A) (high D B) in
+    not (ltZ greaterLow lesserHigh) && not (ltZ lesserHigh greaterLow)

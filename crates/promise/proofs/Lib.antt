@@ -8,3 +8,5 @@ pub mod Contacted
 pub mod Promised
 pub mod PromisedLine
 pub mod WrittenLine
+pub mod Sharing
+pub mod Bearing

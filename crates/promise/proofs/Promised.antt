@@ -47,7 +47,7 @@ module _ (m : Move) (wa : Wide (m .a)) (wb : Wide (m .b)) where
       (λ h e. promise-by-one m wa wb (emptyPlace (spans m)) (omega (arith, spans-length m)) e) (λ a e. promise-by-two m wa wb a e) (λ a e. promise-contact m wa wb a e _)
 
 -- ---- accepted moves
-accepted-wide : (A : List Corner) → isSound A ≡ true → Wide A
+pub accepted-wide : (A : List Corner) → isSound A ≡ true → Wide A
 accepted-wide A e = sound-wide A (sound-yes A e)
 
 pub promise : (m : Move) → refusal m ≡ 0 → Promise m (verdict m)

@@ -68,7 +68,7 @@ module _ (m : Move) (wa : Wide (m .a)) (wb : Wide (m .b)) (k : ℕ) (h : k < sid
         let w = dot D (m .vb) -ℤ dot D (m .va) in
         window-reached t lo hi w (natAbs (m .limit)) is above
 
-    one-value : (high D B ≡ low D A) ⊎ (high D A ≡ low D B)
+    pub one-value : (high D B ≡ low D A) ⊎ (high D A ≡ low D B)
     one-value =
         let spread = spread-≡ (pos (t .d)) (pos (t .n)) in
         ⊎-elim

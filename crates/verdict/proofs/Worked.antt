@@ -8,7 +8,7 @@ use Rattle.whole.specs.Table.{table}
 use Rattle.span.specs.Window.{windowAhead, windowStill, window}
 use Rattle.span.specs.Outcome.{outcome}
 use Rattle.plane.specs.Point.{cross, dot}
-use Rattle.plane.specs.Interval.{low, high, shares}
+use Rattle.plane.specs.Interval.{low, high, shares, touches}
 use Rattle.plane.specs.Inside.{inside, meet}
 use Rattle.outline.specs.Sound.{left, badEdge, isSound}
 use Rattle.outline.specs.Refusal.{firstThatApplies, counted, placed}
@@ -21,5 +21,5 @@ use Rattle.verdict.specs.Answer.{answerUnless, answer}
 use Rattle.verdict.specs.Cases.{Case, cases}
 
 pub worked : map (λ (c : Case). answer (c .asked)) cases ≡ map (λ (c : Case). c .answered) cases
-unfolding lowest every best before same reduced cross dot low high shares inside meet left badEdge isSound firstThatApplies counted placed sideOf windowAhead windowStill window span table spans cornerInside edgesMeet meetingPair showingOf showing outcome verdict refusal answerUnless answer
+unfolding lowest every best before same reduced cross dot low high shares touches inside meet left badEdge isSound firstThatApplies counted placed sideOf windowAhead windowStill window span table spans cornerInside edgesMeet meetingPair showingOf showing outcome verdict refusal answerUnless answer
 worked = refl

@@ -58,7 +58,7 @@ cases =
     -- P8
     ∷ row (move (square 0 0) (square 5 5) (point (minus 1) (minus 1)) 10) (contact 3 1 7 1 (Side 0) (CornerOfA 2))
     -- P9
-    ∷ row (move (square 0 0) (square 2 0) origin 10) (contact 0 1 10 1 None (CornerOfA 1))
+    ∷ row (move (square 0 0) (square 2 0) origin 10) (contact 0 1 10 1 (Side 1) (CornerOfA 1))
     -- P10
     ∷ row (move (box (pos 0) (pos 0) (pos 10) (pos 10)) (square 4 4) origin 10) (contact 0 1 10 1 None (CornerOfB 0))
     -- P11

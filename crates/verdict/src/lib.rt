@@ -3,7 +3,7 @@ ghost use mathlib.Core.Path.{_≡_};
 ghost use Rattle.span.specs.Lead.{Comparable};
 ghost use Rattle.span.specs.declared.Outcome.the-variants.{FromTo};
 ghost use Rattle.moves.specs.HeldMove.{Fit, moveHeld};
-ghost use Rattle.verdict.specs.Verdict.{bearing, verdictFrom, verdict};
+ghost use Rattle.verdict.specs.Verdict.{bearingAtZero, bearing, verdictFrom, verdict};
 ghost use Rattle.verdict.specs.Answer.{answerUnless, answerOfLists};
 ghost use Rattle.moves.specs.Reading.{Readable};
 
@@ -17,7 +17,7 @@ use span::Lead;
 use span::Outcome;
 use whole::Time;
 
-// The lowest side whose begin is first; none where first is zero.
+// The side that bears at first: on it the two intervals share exactly one value there. None where first is zero and they share more on every side.
 pub enum Bearing {
     Side(usize),
     None,
@@ -39,13 +39,28 @@ pub enum Answer {
     Refused(u8),
 }
 
-// The side that bears: the lowest whose begin is first.
-fn bears(first: Lead) -> Bearing
-    ensures { λ r. ⌜ r ≡ bearing first ⌝ }
+// The side that bears where first is zero: the lowest on which the outlines touch.
+fn bears_at_zero(m: HeldMove) -> Bearing
+    requires { ⌜ Fit m ⌝ }
+    ensures { λ r. ⌜ r ≡ bearingAtZero (moveHeld m) ⌝ }
+{
+    let a = m.a;
+    let b = m.b;
+    let k = spans::touching_side(m);
+    if k < a.count + b.count {
+        return Bearing::Side(k);
+    }
+    Bearing::None
+}
+
+// The side that bears.
+fn bears(m: HeldMove, first: Lead) -> Bearing
+    requires { ⌜ Fit m ⌝ }
+    ensures { λ r. ⌜ r ≡ bearing (moveHeld m) first ⌝ }
 {
     let at = first.at;
     if at.n == 0 {
-        return Bearing::None;
+        return bears_at_zero(m);
     }
     Bearing::Side(first.place)
 }
@@ -60,7 +75,7 @@ fn contact(m: HeldMove, first: Lead, last: Lead) -> Answer
     let evidence = Evidence {
         first: begin,
         last: end,
-        bearing: bears(first),
+        bearing: bears(m, first),
         showing: showing::shows::showing(m, begin),
     };
     Answer::Contact(evidence)

@@ -4,7 +4,9 @@ ghost use Prim.Native.Nat.{_<_};
 ghost use Rattle.span.specs.Outcome.{outcome};
 ghost use Rattle.moves.specs.HeldMove.{Fit, moveHeld};
 ghost use Rattle.verdict.specs.Sides.{sideCount, sideOf};
+ghost use Rattle.plane.specs.Interval.{touches};
 ghost use Rattle.verdict.specs.Span.{span, spans};
+ghost use Rattle.verdict.specs.Verdict.{touchingSide};
 use moves::HeldMove;
 use outline::Outline;
 use plane::Corner;
@@ -77,4 +79,40 @@ pub fn outcome(m: HeldMove) -> Outcome
         k += 1;
     }
     span::concluded(first, last)
+}
+
+// Whether the two intervals of side k share exactly one value at time zero.
+fn touches(m: HeldMove, k: usize) -> bool
+    requires { ⌜ Fit m × (k < sideCount (moveHeld m)) ⌝ }
+    ensures { λ r. ⌜ r ≡ touches (sideOf (moveHeld m) k) (moveHeld m .a) (moveHeld m .b) ⌝ }
+{
+    let d = side(m, k);
+    let a = m.a;
+    let b = m.b;
+    let on_a = outline::project(a, d);
+    let on_b = outline::project(b, d);
+    let low = whole::greater(on_a.low, on_b.low);
+    let high = whole::lesser(on_a.high, on_b.high);
+    if low < high {
+        return false;
+    }
+    !(high < low)
+}
+
+// The lowest side on which they do, or the number of sides where there is none.
+pub fn touching_side(m: HeldMove) -> usize
+    requires { ⌜ Fit m ⌝ }
+    ensures { λ r. ⌜ r ≡ touchingSide (moveHeld m) ⌝ }
+{
+    let a = m.a;
+    let b = m.b;
+    let n = a.count + b.count;
+    let mut k: usize = 0;
+    while k < n {
+        if touches(m, k) {
+            return k;
+        }
+        k += 1;
+    }
+    n
 }

@@ -1,7 +1,7 @@
 -- The evidence is the definition's, part by part: the bearing and the showing are what the calls ensure.
 use mathlib.Core.Path.{ap₂}
-use borrow.Author.Needs.{needs}
 use Rattle.verdict.specs.declared.Answer.the-variants.{Contact}
+use borrow.Author.Needs.{needs}
 use Rattle.verdict.proofs.contact.Statement.{statement}
 use Rattle.verdict.proofs.contact.Tie as tie
 

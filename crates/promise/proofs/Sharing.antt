@@ -1,0 +1,101 @@
+-- What the test of a touch shows: where the greater of the two lows is the lesser of the two highs, it is the one value that the intervals share;
+-- where intervals share a value and it is not, both are shared, and they differ.
+use mathlib.Core.Path.{_≡_, refl, sym, _∙_}
+use mathlib.Core.Bool.{Bool, true, false, not, cond, _&&_, and-eq-true-iff, false≢true}
+use mathlib.Core.Logic.{_⊎_, inl, inr, ⊎-elim}
+use mathlib.Core.List.{List}
+use Prim.Native.Nat.{_≤_}
+use lib.IntN.{ℤ}
+use lib.ListN.{length}
+use lib.Signed.{_≤ℤ_, _<ℤ_, ltZ}
+use Rattle.whole.specs.Best.{betterOf}
+use Rattle.whole.proofs.Linear.{ints}
+use Rattle.plane.specs.Interval.{low, high, shares, touches}
+use Rattle.plane.specs.declared.Corner.{Corner}
+use Rattle.plane.proofs.Intervals.{high-bound, low-member, shares-yes}
+use Rattle.promise.specs.Bears.{Shared, OneShared, MoreShared}
+
+-- ---- the greater and the lesser of two numbers
+module _ (x y : ℤ) where
+  abbrev greater : ℤ
+  greater = betterOf (λ a b. ltZ b a) x y
+
+  abbrev lesser : ℤ
+  lesser = betterOf ltZ x y
+
+  greater-is : (x ≤ℤ greater) × (y ≤ℤ greater) × ((greater ≡ x) ⊎ (greater ≡ y))
+  greater-is = go (ltZ x y) refl
+    where
+      go : (t : Bool) → ltZ x y ≡ t → (x ≤ℤ cond t y x) × (y ≤ℤ cond t y x) × ((cond t y x ≡ x) ⊎ (cond t y x ≡ y))
+      go true e = (omega ints, omega ints, inr refl)
+      go false e = (omega ints, omega ints, inl refl)
+
+  lesser-is : (lesser ≤ℤ x) × (lesser ≤ℤ y) × ((lesser ≡ x) ⊎ (lesser ≡ y))
+  lesser-is = go (ltZ y x) refl
+    where
+      go : (t : Bool) → ltZ y x ≡ t → (cond t y x ≤ℤ x) × (cond t y x ≤ℤ y) × ((cond t y x ≡ x) ⊎ (cond t y x ≡ y))
+      go true e = (omega ints, omega ints, inr refl)
+      go false e = (omega ints, omega ints, inl refl)
+
+same-ints : (x y : ℤ) → x ≤ℤ y → y ≤ℤ x → x ≡ y
+same-ints x y h k = omega ints
+
+module _ (D : Corner) (A B : List Corner) (some-a : 1 ≤ length A) (some-b : 1 ≤ length B) where
+  low-high : (C : List Corner) → 1 ≤ length C → low D C ≤ℤ high D C
+  low-high C h = let c = low-member D C h in omega (ints, c .2, high-bound D C (c .0) (c .1))
+
+  -- one ends where the other begins
+  pub ends-one : (high D B ≡ low D A) ⊎ (high D A ≡ low D B) → OneShared D A B
+  ends-one = ⊎-elim
+      (λ e. record { value = low D A; shared = (omega ints, low-high A some-a, omega (ints, e, low-high B some-b), omega (ints, e)); only = λ u s. omega (ints, e, s .0, s .3) })
+      (λ e. record { value = low D B; shared = (omega (ints, e, low-high A some-a), omega (ints, e), omega ints, low-high B some-b); only = λ u s. omega (ints, e, s .1, s .2) })
+
+  abbrev from : ℤ
+  from = greater (low D A) (low D B)
+
+  abbrev to : ℤ
+  to = lesser (high D A) (high D B)
+
+  -- between the two, and there alone, values are shared
+  shared-in : (v : ℤ) → from ≤ℤ v → v ≤ℤ to → Shared D A B v
+  shared-in v h k = let f = greater-is (low D A) (low D B) in let t = lesser-is (high D A) (high D B) in (omega (ints, f .0), omega (ints, t .0), omega (ints, f .1), omega (ints, t .1))
+
+  in-shared : (v : ℤ) → Shared D A B v → (from ≤ℤ v) × (v ≤ℤ to)
+  in-shared v s =
+      let f = greater-is (low D A) (low D B) .2 in
+      let t = lesser-is (high D A) (high D B) .2 in
+      (⊎-elim (λ e. omega (ints, e, s .0)) (λ e. omega (ints, e, s .2)) f, ⊎-elim (λ e. omega (ints, e, s .1)) (λ e. omega (ints, e, s .3)) t)
+
+  pub touches-one : touches D A B ≡ true → OneShared D A B
+  unfolding touches
+  touches-one e =
+      let w = and-eq-true-iff (not (ltZ from to)) (not (ltZ to from)) .0 e in
+      let h = not-less from to (w .0) in
+      let k = not-less to from (w .1) in
+      record { value = from; shared = shared-in from (omega ints) (omega (ints, k)); only = λ u s. omega (ints, h, in-shared u s .0, in-shared u s .1) }
+    where
+      not-less : (x y : ℤ) → not (ltZ x y) ≡ true → y ≤ℤ x
+      not-less x y n = go (ltZ x y) refl n
+        where
+          go : (t : Bool) → ltZ x y ≡ t → not t ≡ true → y ≤ℤ x
+          go true q n = absurd (false≢true n)
+          go false q n = omega ints
+
+  pub touches-more : shares D A B ≡ true → touches D A B ≡ false → MoreShared D A B
+  unfolding touches
+  touches-more s e =
+      let w = shares-yes D A B s in
+      let ordered : from ≤ℤ to = ⊎-elim (λ f. ⊎-elim (λ t. omega (ints, f, t, low-high A some-a)) (λ t. omega (ints, f, t, w .0)) (lesser-is (high D A) (high D B) .2)) (λ f. ⊎-elim (λ t. omega (ints, f, t, w .1)) (λ t. omega (ints, f, t, low-high B some-b)) (lesser-is (high D A) (high D B) .2)) (greater-is (low D A) (low D B) .2) in
+      let less : from <ℤ to = go (ltZ from to) (ltZ to from) refl refl ordered e in
+      record { lesser = from; greater = to; differ = less; lesser-shared = shared-in from (omega ints) (omega (ints, less)); greater-shared = shared-in to (omega (ints, less)) (omega ints) }
+    where
+      go : (t u : Bool) → ltZ from to ≡ t → ltZ to from ≡ u → from ≤ℤ to → (not t && not u) ≡ false → from <ℤ to
+      go true u p q o n = omega ints
+      go false true p q o n = absurd (clash p q o)
+        where
+          clash : ltZ from to ≡ false → ltZ to from ≡ true → from ≤ℤ to → ⊥
+          clash p q o = omega ints
+      go false false p q o n = absurd (false≢true (sym n))
+
+  pub one-or-more : OneShared D A B → MoreShared D A B → ⊥
+  one-or-more o m = let e = o .only (m .lesser) (m .lesser-shared) ∙ sym (o .only (m .greater) (m .greater-shared)) in omega (ints, e, m .differ)
