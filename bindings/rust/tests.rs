@@ -12,7 +12,7 @@ mod frame;
 mod generate;
 
 use checker::{is_sound, point, verdict, Point, Verdict};
-use generate::Rng;
+use generate::{Rng, Set, AT_ZERO, BASE};
 use stonefruitle::*;
 
 const SEED: u64 = 20_261;
@@ -161,8 +161,8 @@ fn cases() -> Vec<Case> {
             square(2, 0),
             (0, 0),
             10,
-            contact((0, 1), (10, 1), None, CornerOfA(1)),
-            "810200000000000000010000000a00000001ff000100",
+            contact((0, 1), (10, 1), Some(1), CornerOfA(1)),
+            "810200000000000000010000000a0000000101000100",
         ),
         case(
             "P10",
@@ -487,13 +487,13 @@ fn check_lists(what: &str, m: &Lists, extra: usize) -> Result<Verdict, u8> {
 // ---------------------------------------------------------------------------
 // Many moves
 
-/// Lines of every class, the damaged among them; those that are moves also as lists.
-#[test]
-fn random_lines() {
+/// Lines of a set of classes; those that are moves also as lists. How often each refusal came up.
+fn check_lines(set: Set) -> [u64; 10] {
     let mut counts = [0; 10];
     for place in 0..COUNT {
-        let line = generate::line(SEED, place, generate::class_of_place(place));
-        let what = format!("seed {SEED}, place {place}: {}", shown(&line));
+        let class = generate::class_of_place(set, place);
+        let line = generate::line(SEED, place, class);
+        let what = format!("seed {SEED}, place {place}, {class:?}: {}", shown(&line));
         let answer = frame::answer(&line);
         let refusal = answer.as_ref().err().copied().unwrap_or(0);
         counts[refusal as usize] += 1;
@@ -516,6 +516,13 @@ fn random_lines() {
             assert_eq!(read_move(&line).unwrap().as_move(), lists.asked(), "{what}");
         }
     }
+    counts
+}
+
+/// Lines of every class of document 01, the damaged among them.
+#[test]
+fn random_lines() {
+    let counts = check_lines(BASE);
     println!("random lines by refusal: {counts:?}");
     assert!(
         counts[2..].iter().all(|n| *n > 0),
@@ -523,13 +530,19 @@ fn random_lines() {
     );
 }
 
-/// Lists with something changed: what no line can say is here, as an odd length or a number of 64 bits.
+/// Lines of the classes of request Q-1, of which none is refused.
 #[test]
-fn random_lists() {
+fn random_lines_at_zero() {
+    assert_eq!(check_lines(AT_ZERO)[0], COUNT);
+}
+
+/// Lists of a set of classes, none of them refused, with something changed: what no line can say is here, as an odd length
+/// or a number of 64 bits.
+fn check_changed_lists(set: Set) {
     let mut counts = [0; 10];
     for place in 0..COUNT {
         let mut rng = Rng::for_line(SEED + 1, place);
-        let class = generate::CLASSES[(place % 8) as usize].0;
+        let class = generate::class_of_place(set, place);
         let mut m = Lists::of(&generate::sound_move(&mut rng, class));
         for _ in 0..rng.range(0, 2) {
             change(&mut rng, &mut m);
@@ -543,6 +556,16 @@ fn random_lists() {
         counts[4..].iter().all(|n| *n > 0),
         "a refusal did not come up: {counts:?}"
     );
+}
+
+#[test]
+fn random_lists() {
+    check_changed_lists(&BASE[..8]);
+}
+
+#[test]
+fn random_lists_at_zero() {
+    check_changed_lists(AT_ZERO);
 }
 
 fn any_number(rng: &mut Rng) -> i64 {

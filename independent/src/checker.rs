@@ -1,4 +1,4 @@
-//! The outline test and the verdict, written from the paper in its own order.
+//! The outline test and the verdict, written from the papers in their order.
 //!
 //! Nothing here is tuned. Every quantity is an `i128`, so no step needs an
 //! argument about overflow; every time is reduced at once; every side is
@@ -182,6 +182,18 @@ pub fn span(m: &Move, direction: Point) -> Option<Span> {
         .and_then(|rest| keep(rest, speed_b - speed_a, high_a - low_b))
 }
 
+/// The sides, in order, on which the two projections at time zero share
+/// exactly one value: the greater of the lows is the lesser of the highs.
+pub fn touched_at_zero(m: &Move) -> Vec<usize> {
+    let shares_one = |direction: Point| {
+        let (low_a, high_a) = interval(&m.a, direction);
+        let (low_b, high_b) = interval(&m.b, direction);
+        low_a.max(low_b) == high_a.min(high_b)
+    };
+    let all = directions(m);
+    (0..all.len()).filter(|&k| shares_one(all[k])).collect()
+}
+
 /// The corners moved to a time n/d, all multiplied by d to stay whole.
 pub fn moved(outline: &[Point], velocity: Point, time: Fraction) -> Vec<Point> {
     outline
@@ -260,7 +272,11 @@ pub fn verdict(m: &Move) -> Verdict {
     Verdict::Contact {
         first,
         last,
-        bearing: if first.n > 0 { Some(latest) } else { None },
+        bearing: if first.n > 0 {
+            Some(latest)
+        } else {
+            touched_at_zero(m).first().copied()
+        },
         showing: showing_at(m, first).expect("outlines in contact show it"),
     }
 }

@@ -1,7 +1,9 @@
-//! Seeded move lines of ten classes, each aimed at a different difficulty.
+//! Seeded move lines of many classes, each aimed at a different difficulty.
 //!
 //! A line depends on the seed, its place and its class and on nothing else,
-//! so a line that shows a difference can always be made again.
+//! so a line that shows a difference can always be made again. The classes
+//! come in sets, one for document 01 and one for each request after it; a set
+//! stays as it is, so that its lines and answers can be compared for good.
 
 use super::checker::{edge, inside_or_on, interval, is_sound, point, Move, Point};
 use super::frame::{write_move, MOST_DIGITS, REACH};
@@ -28,9 +30,30 @@ pub enum Class {
     Unsound,
     /// Lines that are not a move, or have a field out of its range.
     Damaged,
+    /// At rest, touching at one point: a corner on a corner or on an edge.
+    Corner,
+    /// At rest, touching along an edge of each, for some length.
+    Edge,
+    /// At rest, two parallel edges on one line, and each outline has another
+    /// edge parallel to them.
+    Parallel,
+    /// At rest, corner to corner, so that several sides part them.
+    Several,
+    /// One outline in the other, mostly against it from the inside.
+    Within,
+    /// Overlapping at time zero: across one another, or by very little.
+    Across,
+    /// In touch at time zero and moving apart.
+    Parting,
+    /// In touch at time zero and moving into or along one another.
+    Closing,
 }
 
-pub const CLASSES: [(Class, &str); 10] = [
+/// Classes that take turns, with their names.
+pub type Set = &'static [(Class, &'static str)];
+
+/// Of document 01.
+pub const BASE: Set = &[
     (Class::Touching, "touching"),
     (Class::Sliding, "sliding"),
     (Class::Contained, "contained"),
@@ -43,16 +66,33 @@ pub const CLASSES: [(Class, &str); 10] = [
     (Class::Damaged, "damaged"),
 ];
 
-pub fn class_named(name: &str) -> Option<Class> {
-    CLASSES
-        .iter()
-        .find(|(_, n)| *n == name)
-        .map(|(class, _)| *class)
+/// Of request Q-1: how the outlines lie at time zero.
+pub const AT_ZERO: Set = &[
+    (Class::Corner, "corner"),
+    (Class::Edge, "edge"),
+    (Class::Parallel, "parallel"),
+    (Class::Several, "several"),
+    (Class::Within, "within"),
+    (Class::Across, "across"),
+    (Class::Parting, "parting"),
+    (Class::Closing, "closing"),
+];
+
+pub const SETS: [(&str, Set); 2] = [("base", BASE), ("Q-1", AT_ZERO)];
+
+pub fn set_named(name: &str) -> Option<Set> {
+    SETS.iter().find(|(n, _)| *n == name).map(|(_, set)| *set)
 }
 
-/// The class of a line when none is asked for: each in its turn.
-pub fn class_of_place(place: u64) -> Class {
-    CLASSES[(place % CLASSES.len() as u64) as usize].0
+/// The class of this name as a set of its own.
+pub fn class_named(name: &str) -> Option<Set> {
+    let all = SETS.iter().flat_map(|(_, set)| set.chunks(1));
+    all.into_iter().find(|one| one[0].1 == name)
+}
+
+/// The class of a line of a set: each in its turn.
+pub fn class_of_place(set: Set, place: u64) -> Class {
+    set[(place % set.len() as u64) as usize].0
 }
 
 /// The line of a class at a place, without its 0a. It holds no 0a itself, so
@@ -66,7 +106,7 @@ pub fn line(seed: u64, place: u64, class: Class) -> Vec<u8> {
     }
 }
 
-/// A move of one of the eight classes that are not refused.
+/// A move of one of the classes that are not refused.
 pub fn sound_move(rng: &mut Rng, class: Class) -> Move {
     // An attempt fails when what it laid out does not fit the range.
     loop {
@@ -79,6 +119,14 @@ pub fn sound_move(rng: &mut Rng, class: Class) -> Move {
             Class::Full => full(rng),
             Class::Instant => instant(rng),
             Class::Still => still(rng),
+            Class::Corner => by_corner(rng).and_then(|t| at_rest(rng, t)),
+            Class::Edge => by_edge(rng).and_then(|t| at_rest(rng, t)),
+            Class::Parallel => by_parallel_edges(rng).and_then(|t| at_rest(rng, t)),
+            Class::Several => by_several(rng).and_then(|t| at_rest(rng, t)),
+            Class::Within => within(rng),
+            Class::Across => across(rng),
+            Class::Parting => parting(rng),
+            Class::Closing => closing(rng),
             Class::Unsound | Class::Damaged => panic!("{class:?} is not a class of sound moves"),
         };
         if let Some(m) = attempt {
@@ -160,8 +208,12 @@ fn shifted(outline: &[Point], by: Point) -> Vec<Point> {
     outline.iter().map(|corner| corner.plus(by)).collect()
 }
 
+fn enlarged(outline: &[Point], times: i128) -> Vec<Point> {
+    outline.iter().map(|corner| corner.times(times)).collect()
+}
+
 fn turned_half(outline: &[Point]) -> Vec<Point> {
-    outline.iter().map(|corner| corner.times(-1)).collect()
+    enlarged(outline, -1)
 }
 
 /// The image under the matrix with columns `u`, `v`. Where their cross
@@ -202,6 +254,18 @@ fn closed_walk(rng: &mut Rng, count: usize, size: i128) -> Vec<i128> {
     steps
 }
 
+/// The places that the steps lead to, one after the other.
+fn walked(steps: &[Point]) -> Vec<Point> {
+    let mut at = point(0, 0);
+    steps
+        .iter()
+        .map(|step| {
+            at = at.plus(*step);
+            at
+        })
+        .collect()
+}
+
 /// One try at an outline: random edges that add up to zero, in the order of
 /// their angles. It may have straight corners.
 fn edges_in_order(rng: &mut Rng, count: usize, size: i128) -> Vec<Point> {
@@ -213,14 +277,7 @@ fn edges_in_order(rng: &mut Rng, count: usize, size: i128) -> Vec<Point> {
     let mut steps: Vec<Point> = xs.iter().zip(&ys).map(|(&x, &y)| point(x, y)).collect();
     let upper = |p: &Point| p.y > 0 || (p.y == 0 && p.x > 0);
     steps.sort_by(|p, q| upper(q).cmp(&upper(p)).then(0.cmp(&p.cross(*q))));
-    let mut at = point(0, 0);
-    steps
-        .iter()
-        .map(|step| {
-            at = at.plus(*step);
-            at
-        })
-        .collect()
+    walked(&steps)
 }
 
 /// A sound outline with exactly `count` corners, about the origin, some
@@ -360,10 +417,7 @@ fn touch(rng: &mut Rng, size: i128) -> Touch {
     // Enlarged, every edge has whole places between its ends, so that a
     // corner can rest in the middle of an edge.
     let times = rng.pick(&[1, 2, 3, 4, 6]);
-    let a: Vec<Point> = any_outline(rng, (size / times).max(2))
-        .iter()
-        .map(|corner| corner.times(times))
-        .collect();
+    let a = enlarged(&any_outline(rng, (size / times).max(2)), times);
     let b_size = rng.size(2, size.max(3));
     let b = partner(rng, &a, b_size);
     let (spot, across) = if rng.one_in(3) {
@@ -444,7 +498,8 @@ fn contained(rng: &mut Rng) -> Option<Move> {
     put_together(rng, &a, &b, w, limit)
 }
 
-fn crossing(rng: &mut Rng) -> Option<Move> {
+/// Two outlines across one another.
+fn crossed(rng: &mut Rng) -> (Vec<Point>, Vec<Point>) {
     let (a, b) = if rng.one_in(4) {
         // Two triangles as a star of six points, one perhaps off its place.
         let size = rng.size(2, 2000);
@@ -494,7 +549,11 @@ fn crossing(rng: &mut Rng) -> Option<Move> {
     } else {
         (point(0, 1), point(-1, lean))
     };
-    let (a, b) = (mapped(&a, u, v), mapped(&b, u, v));
+    (mapped(&a, u, v), mapped(&b, u, v))
+}
+
+fn crossing(rng: &mut Rng) -> Option<Move> {
+    let (a, b) = crossed(rng);
     let speed = rng.size(1, 2 * REACH);
     let w = if rng.one_in(3) {
         point(0, 0)
@@ -744,6 +803,241 @@ fn still(rng: &mut Rng) -> Option<Move> {
     let b = shifted(&b, apart);
     let limit = any_limit(rng);
     put_together(rng, &a, &b, point(0, 0), limit)
+}
+
+// ---------------------------------------------------------------------------
+// How the outlines lie at time zero (request Q-1)
+
+/// Some of the corners, at least three, in their order; those at the places
+/// `kept` among them. A part of a sound outline is sound.
+fn part_of(rng: &mut Rng, outline: &[Point], kept: &[usize]) -> Vec<Point> {
+    loop {
+        let part: Vec<Point> = (0..outline.len())
+            .filter(|i| rng.one_in(2) || kept.contains(i))
+            .map(|i| outline[i])
+            .collect();
+        if part.len() >= 3 {
+            return part;
+        }
+    }
+}
+
+/// How many corners are farthest in a direction.
+fn farthest_count(outline: &[Point], direction: Point) -> usize {
+    let (_, most) = interval(outline, direction);
+    let is_farthest = |c: &&Point| direction.dot(**c) == most;
+    outline.iter().filter(is_farthest).count()
+}
+
+/// At one point: on the line between them at most one has an edge.
+fn by_corner(rng: &mut Rng) -> Option<Touch> {
+    let size = rng.size(2, 6000);
+    let touch = touch(rng, size);
+    let on_a = farthest_count(&touch.a, touch.across);
+    let on_b = farthest_count(&touch.b, touch.across.times(-1));
+    if on_a == 1 || on_b == 1 {
+        Some(touch)
+    } else {
+        None
+    }
+}
+
+/// B where its edge `j`, which runs the other way, lies on the line of A's
+/// edge `i`. They share some length, or where `ends` allows it one end.
+fn flush(rng: &mut Rng, a: &[Point], i: usize, b: &[Point], j: usize, ends: bool) -> Touch {
+    let (start, stop) = edge(a, i);
+    let (other_start, other_stop) = edge(b, j);
+    let (step, other) = (stop.minus(start), other_stop.minus(other_start));
+    let both = gcd(step.x, step.y) + gcd(other.x, other.y);
+    let least = if ends { 0 } else { 1 };
+    let along = rng.range(least, both - least);
+    let spot = start.plus(shortest(step).times(along));
+    Touch {
+        a: a.to_vec(),
+        b: shifted(b, spot.minus(other_start)),
+        across: point(step.y, -step.x),
+    }
+}
+
+/// A part of an outline, turned half; and where in it the corner is that was
+/// at the first of the places `kept`.
+fn turned_part(rng: &mut Rng, outline: &[Point], kept: &[usize]) -> (Vec<Point>, usize) {
+    let part = part_of(rng, outline, kept);
+    let at = part.iter().position(|c| *c == outline[kept[0]]);
+    (turned_half(&part), at.expect("the corner was kept"))
+}
+
+/// Either is perhaps larger.
+fn resized(rng: &mut Rng, a: &[Point], b: &[Point]) -> (Vec<Point>, Vec<Point>) {
+    (enlarged(a, rng.range(1, 3)), enlarged(b, rng.range(1, 3)))
+}
+
+/// B is a part of A turned half, so that their edges run opposite ways.
+fn by_edge(rng: &mut Rng) -> Option<Touch> {
+    let size = rng.size(2, 3000);
+    let a = any_outline(rng, size);
+    let i = rng.index(a.len());
+    let (b, j) = turned_part(rng, &a, &[i, (i + 1) % a.len()]);
+    let (a, b) = resized(rng, &a, &b);
+    Some(flush(rng, &a, i, &b, j, false))
+}
+
+/// An outline in which each edge has its opposite, parallel to it: the given
+/// steps, no two of them parallel, and then the same steps back.
+fn paired(steps: &[Point]) -> Vec<Point> {
+    let upward = |s: &Point| match s.y > 0 || (s.y == 0 && s.x > 0) {
+        true => *s,
+        false => s.times(-1),
+    };
+    let mut out: Vec<Point> = steps.iter().map(upward).collect();
+    out.sort_by(|p, q| 0.cmp(&p.cross(*q)));
+    let back = turned_half(&out);
+    walked(&[out, back].concat())
+}
+
+/// Both have all edges in pairs, and one step, times something, in common.
+fn by_parallel_edges(rng: &mut Rng) -> Option<Touch> {
+    let size = rng.size(1, 800);
+    let common = shortest(rng.nonzero_within(size));
+    let mut one = || {
+        let mut steps = vec![common.times(rng.range(1, 4))];
+        for _ in 0..rng.range(1, 7) {
+            steps.push(rng.nonzero_within(size));
+        }
+        paired(&steps)
+    };
+    let (a, b) = (one(), one());
+    if !is_sound(&a) || !is_sound(&b) {
+        return None;
+    }
+    let along = |outline: &[Point], direction: Point| {
+        (0..outline.len()).find(|&i| {
+            let (start, stop) = edge(outline, i);
+            shortest(stop.minus(start)) == direction
+        })
+    };
+    let (i, j) = (along(&a, common)?, along(&b, common.times(-1))?);
+    Some(if rng.one_in(2) {
+        flush(rng, &a, i, &b, j, true)
+    } else {
+        flush(rng, &b, j, &a, i, true)
+    })
+}
+
+/// Corner to corner: B is a part of A turned half about the corner, so that
+/// the lines of both edges at A's corner are between them, and often those
+/// of the edges at B's.
+fn by_several(rng: &mut Rng) -> Option<Touch> {
+    let size = rng.size(2, 3000);
+    let a = any_outline(rng, size);
+    let i = rng.index(a.len());
+    let (next, before) = ((i + 1) % a.len(), (i + a.len() - 1) % a.len());
+    let kept = rng.pick(&[[i, i, i], [i, next, before], [i, i, next]]);
+    let (b, j) = turned_part(rng, &a, &kept);
+    let (a, b) = resized(rng, &a, &b);
+    let (start, stop) = edge(&a, rng.pick(&[i, before]));
+    let step = stop.minus(start);
+    Some(Touch {
+        b: shifted(&b, a[i].minus(b[j])),
+        across: point(step.y, -step.x),
+        a,
+    })
+}
+
+/// At rest as they touch, or a hair off.
+fn at_rest(rng: &mut Rng, touch: Touch) -> Option<Move> {
+    let hair = if rng.one_in(8) {
+        rng.nonzero_within(1)
+    } else {
+        point(0, 0)
+    };
+    let limit = any_limit(rng);
+    put_together(rng, &touch.a, &shifted(&touch.b, hair), point(0, 0), limit)
+}
+
+/// At rest, or moving any way.
+fn any_way(rng: &mut Rng) -> Point {
+    let speed = rng.size(1, 2 * REACH);
+    if rng.one_in(2) {
+        point(0, 0)
+    } else {
+        rng.within(speed)
+    }
+}
+
+fn within(rng: &mut Rng) -> Option<Move> {
+    let size = rng.size(3, 6000);
+    let a = any_outline(rng, size);
+    let (a, b) = match rng.index(4) {
+        // The same once more.
+        0 => (a.clone(), a),
+        // A part of it: corners on corners, edges along edges.
+        1 => (a.clone(), part_of(rng, &a, &[])),
+        // A smaller one of its shape, along an edge or in a corner of it.
+        _ => {
+            let times = rng.range(2, 3);
+            let (start, stop) = edge(&a, rng.index(a.len()));
+            let step = stop.minus(start);
+            let along = rng.range(0, (times - 1) * gcd(step.x, step.y));
+            let to = start.times(times - 1).plus(shortest(step).times(along));
+            (enlarged(&a, times), shifted(&a, to))
+        }
+    };
+    let w = any_way(rng);
+    let limit = any_limit(rng);
+    put_together(rng, &a, &b, w, limit)
+}
+
+fn across(rng: &mut Rng) -> Option<Move> {
+    let (a, b) = if rng.one_in(2) {
+        crossed(rng)
+    } else {
+        // Pushed together by a short step, so that they overlap by little.
+        let Touch { a, b, across } = any_touch(rng)?;
+        let steps = rng.range(1, 3);
+        let by = point(across.x.signum(), across.y.signum());
+        let b = shifted(&b, by.times(-steps));
+        (a, b)
+    };
+    let w = any_way(rng);
+    let limit = any_limit(rng);
+    put_together(rng, &a, &b, w, limit)
+}
+
+fn any_touch(rng: &mut Rng) -> Option<Touch> {
+    match rng.index(4) {
+        0 => by_corner(rng),
+        1 => by_edge(rng),
+        2 => by_parallel_edges(rng),
+        _ => by_several(rng),
+    }
+}
+
+fn parting(rng: &mut Rng) -> Option<Move> {
+    let Touch { a, b, across } = any_touch(rng)?;
+    let speed = rng.size(1, 2 * REACH);
+    let w = match rng.index(3) {
+        0 => shortest(across),
+        _ => rng.within(speed),
+    };
+    let w = match w.dot(across).signum() {
+        0 => return None,
+        sign => w.times(sign),
+    };
+    let limit = any_limit(rng);
+    put_together(rng, &a, &b, w, limit)
+}
+
+/// A corner of B goes to a corner of A, so that contact lasts until then.
+fn closing(rng: &mut Rng) -> Option<Move> {
+    let Touch { a, b, .. } = any_touch(rng)?;
+    let way = rng.pick(&a).minus(rng.pick(&b));
+    if way == point(0, 0) {
+        return None;
+    }
+    let w = if rng.one_in(2) { way } else { shortest(way) };
+    let limit = any_limit(rng);
+    put_together(rng, &a, &b, w, limit)
 }
 
 // ---------------------------------------------------------------------------

@@ -4,14 +4,14 @@ mod checker;
 mod frame;
 mod generate;
 
-use checker::{Showing, Verdict};
-use generate::Class;
+use checker::{directions, touched_at_zero, verdict, Move, Showing, Verdict};
+use generate::Set;
 use std::io::{self, BufRead, BufReader, BufWriter, Write};
 use std::process::ExitCode;
 
 const USAGE: &str = "usage: independent [answer]
-       independent moves SEED COUNT [CLASS]
-       independent count SEED COUNT";
+       independent moves SEED COUNT [SET | CLASS]
+       independent count SEED COUNT [SET | CLASS]";
 
 /// One answer line for each line of the input. Lines end at byte 0a; a last
 /// one without it counts if it has a byte.
@@ -31,9 +31,9 @@ fn answer(mut input: impl BufRead, mut output: impl Write) -> io::Result<()> {
     }
 }
 
-fn moves(mut output: impl Write, seed: u64, count: u64, class: Option<Class>) -> io::Result<()> {
+fn moves(mut output: impl Write, seed: u64, count: u64, set: Set) -> io::Result<()> {
     for place in 0..count {
-        let class = class.unwrap_or_else(|| generate::class_of_place(place));
+        let class = generate::class_of_place(set, place);
         let mut line = generate::line(seed, place, class);
         line.push(b'\n');
         output.write_all(&line)?;
@@ -42,24 +42,51 @@ fn moves(mut output: impl Write, seed: u64, count: u64, class: Option<Class>) ->
 }
 
 /// The cases an answer is counted under. A contact counts under its time, its
-/// showing and, where it has one, its shortness.
-const CASES: [&str; 16] = [
-    "clear1", "clear2", "at-zero", "later", "instant", "kind0", "kind1", "kind2", "r2", "r3", "r4",
-    "r5", "r6", "r7", "r8", "r9",
+/// showing and, where it has one, its shortness; at zero also under its
+/// bearing.
+const CASES: [&str; 21] = [
+    "clear1", "clear2", "at-zero", "ff", "bears", "above-0", "of-B", "two-ways", "later",
+    "instant", "kind0", "kind1", "kind2", "r2", "r3", "r4", "r5", "r6", "r7", "r8", "r9",
 ];
 
-fn cases(answer: &Result<Verdict, frame::Refusal>) -> Vec<&'static str> {
-    match answer {
-        Err(refusal) => vec![CASES[*refusal as usize + 6]],
-        Ok(Verdict::ClearByOne(_)) => vec!["clear1"],
-        Ok(Verdict::ClearByTwo(_, _)) => vec!["clear2"],
-        Ok(Verdict::Contact {
+/// Whether two of the sides that touch at time zero are not parallel.
+fn touches_two_ways(m: &Move) -> bool {
+    let all = directions(m);
+    let touched = touched_at_zero(m);
+    touched.iter().any(|&k| all[touched[0]].cross(all[k]) != 0)
+}
+
+fn cases(read: &Result<Move, frame::Refusal>) -> Vec<&'static str> {
+    let m = match read {
+        Err(refusal) => return vec![CASES[*refusal as usize + 11]],
+        Ok(m) => m,
+    };
+    match verdict(m) {
+        Verdict::ClearByOne(_) => vec!["clear1"],
+        Verdict::ClearByTwo(_, _) => vec!["clear2"],
+        Verdict::Contact {
             first,
             last,
+            bearing,
             showing,
-            ..
-        }) => {
+        } => {
             let mut all = vec![if first.n == 0 { "at-zero" } else { "later" }];
+            match bearing {
+                _ if first.n > 0 => {}
+                None => all.push("ff"),
+                Some(side) => {
+                    all.push("bears");
+                    if side > 0 {
+                        all.push("above-0");
+                    }
+                    if side >= m.a.len() {
+                        all.push("of-B");
+                    }
+                    if touches_two_ways(m) {
+                        all.push("two-ways");
+                    }
+                }
+            }
             if first == last {
                 all.push("instant");
             }
@@ -74,18 +101,15 @@ fn cases(answer: &Result<Verdict, frame::Refusal>) -> Vec<&'static str> {
 }
 
 /// The same moves, not written but answered and counted.
-fn count(mut output: impl Write, seed: u64, count: u64) -> io::Result<()> {
-    let mut table = [[0u64; CASES.len()]; generate::CLASSES.len()];
-    let mut lines = [0u64; generate::CLASSES.len()];
+fn count(mut output: impl Write, seed: u64, count: u64, set: Set) -> io::Result<()> {
+    let mut table = vec![[0u64; CASES.len()]; set.len()];
+    let mut lines = vec![0u64; set.len()];
     for place in 0..count {
-        let class = generate::class_of_place(place);
-        let row = generate::CLASSES
-            .iter()
-            .position(|(c, _)| *c == class)
-            .unwrap();
-        let answer = frame::answer(&generate::line(seed, place, class));
+        let class = generate::class_of_place(set, place);
+        let row = set.iter().position(|(c, _)| *c == class).unwrap();
+        let read = frame::read_move(&generate::line(seed, place, class));
         lines[row] += 1;
-        for case in cases(&answer) {
+        for case in cases(&read) {
             let column = CASES.iter().position(|c| *c == case).unwrap();
             table[row][column] += 1;
         }
@@ -96,7 +120,7 @@ fn count(mut output: impl Write, seed: u64, count: u64) -> io::Result<()> {
         write!(output, "{case:>9}")?;
     }
     writeln!(output)?;
-    for (row, (_, name)) in generate::CLASSES.iter().enumerate() {
+    for (row, (_, name)) in set.iter().enumerate() {
         write!(output, "{name:<10}{:>9}", lines[row])?;
         for number in table[row] {
             write!(output, "{number:>9}")?;
@@ -120,19 +144,23 @@ fn main() -> ExitCode {
     let words: Vec<&str> = arguments.iter().map(String::as_str).collect();
     let output = BufWriter::new(io::stdout().lock());
     let number = |word: &str| word.parse::<u64>().ok();
+    let set = |word: &str| generate::set_named(word).or_else(|| generate::class_named(word));
+    let numbers = |seed: &str, lines: &str| number(seed).zip(number(lines));
 
     let done = match words[..] {
         [] | ["answer"] => Some(answer(BufReader::new(io::stdin().lock()), output)),
-        ["moves", seed, lines] => number(seed)
-            .zip(number(lines))
-            .map(|(seed, lines)| moves(output, seed, lines, None)),
-        ["moves", seed, lines, class] => number(seed)
-            .zip(number(lines))
-            .zip(generate::class_named(class))
-            .map(|((seed, lines), class)| moves(output, seed, lines, Some(class))),
-        ["count", seed, lines] => number(seed)
-            .zip(number(lines))
-            .map(|(seed, lines)| count(output, seed, lines)),
+        ["moves", seed, lines] => {
+            numbers(seed, lines).map(|(seed, lines)| moves(output, seed, lines, generate::BASE))
+        }
+        ["moves", seed, lines, of] => numbers(seed, lines)
+            .zip(set(of))
+            .map(|((seed, lines), set)| moves(output, seed, lines, set)),
+        ["count", seed, lines] => {
+            numbers(seed, lines).map(|(seed, lines)| count(output, seed, lines, generate::BASE))
+        }
+        ["count", seed, lines, of] => numbers(seed, lines)
+            .zip(set(of))
+            .map(|((seed, lines), set)| count(output, seed, lines, set)),
         _ => None,
     };
 

@@ -2,7 +2,7 @@
 
 use super::checker::*;
 use super::frame::{self, read_move, write_answer, write_move};
-use super::generate::{self, line, sound_move, Class, Rng, CLASSES, STAR};
+use super::generate::{self, line, sound_move, Class, Rng, SETS, STAR};
 
 fn points(list: &[(i128, i128)]) -> Vec<Point> {
     list.iter().map(|&(x, y)| point(x, y)).collect()
@@ -23,7 +23,8 @@ fn case(a: Vec<Point>, b: Vec<Point>, velocity: (i128, i128), limit: i128) -> Mo
     }
 }
 
-/// The paper's cases P1 to P12 with the answer lines they must have.
+/// The paper's cases P1 to P12 with the answer lines they must have, that of
+/// P9 by request Q-1.
 fn paper_cases() -> Vec<(Move, &'static str)> {
     let ten = points(&[(0, 0), (10, 0), (10, 10), (0, 10)]);
     let lying = points(&[(-5, -1), (5, -1), (5, 1), (-5, 1)]);
@@ -54,7 +55,7 @@ fn paper_cases() -> Vec<(Move, &'static str)> {
         ),
         (
             case(s(0, 0), s(2, 0), (0, 0), 10),
-            "810200000000000000010000000a00000001ff000100",
+            "810200000000000000010000000a0000000101000100",
         ),
         (
             case(ten, s(4, 4), (0, 0), 10),
@@ -251,10 +252,16 @@ fn edges_share_a_point_also_in_one_line() {
     assert!(!meet([0, 0, 4, 4], [3, 2, 5, 2])); // within the box, not in line
 }
 
+fn classes() -> impl Iterator<Item = Class> {
+    SETS.iter()
+        .flat_map(|(_, set)| set.iter())
+        .map(|(class, _)| *class)
+}
+
 /// Some of every class that is not refused.
 fn sample(each: u64) -> Vec<(Class, Move)> {
     let mut all = Vec::new();
-    for (class, _) in CLASSES {
+    for class in classes() {
         if class != Class::Unsound && class != Class::Damaged {
             all.extend((0..each).map(|i| (class, sound_move(&mut Rng::for_line(7, i), class))));
         }
@@ -284,7 +291,7 @@ fn the_generator_gives_what_it_says() {
 
     let mut refused = [false; 10];
     for place in 0..5000 {
-        for (class, _) in CLASSES {
+        for class in classes() {
             let made = line(3, place, class);
             assert!(!made.contains(&b'\n'));
             if place < 50 {
@@ -346,7 +353,7 @@ fn verdicts_agree_with_overlap_at_single_times() {
                 for time in times {
                     assert_eq!(overlaps(time), first <= time && time <= last);
                 }
-                assert_eq!(bearing.is_none(), first.n == 0);
+                assert!(first.n == 0 || bearing.is_some());
                 assert!(first.n == 0 || !matches!(showing, Showing::Edges(_, _)));
             }
             Verdict::ClearByOne(side) => {
@@ -360,6 +367,127 @@ fn verdicts_agree_with_overlap_at_single_times() {
                 times.for_each(|time| assert!(!overlaps(time), "{class:?} {m:?}"));
                 assert!(!overlaps(late.begin) && !overlaps(soon.end));
             }
+        }
+    }
+}
+
+/// The bearing side at zero, and the last time of contact.
+fn bearing_from_zero(m: &Move) -> (Option<usize>, Fraction) {
+    match verdict(m) {
+        Verdict::Contact {
+            first: Fraction { n: 0, d: 1 },
+            last,
+            bearing,
+            ..
+        } => (bearing, last),
+        other => panic!("no contact from zero: {other:?}"),
+    }
+}
+
+#[test]
+fn what_bears_at_zero() {
+    let still = |a: Vec<Point>, b: Vec<Point>| bearing_from_zero(&case(a, b, (0, 0), 10)).0;
+    let ten = points(&[(0, 0), (10, 0), (10, 10), (0, 10)]);
+    let diamond = points(&[(-3, 0), (0, -3), (3, 0), (0, 3)]);
+    // Along an edge: A's edge and the one opposite to it share one value
+    // each, and the lower of them is named wherever B lies.
+    assert_eq!(still(s(0, 0), s(2, 0)), Some(1));
+    assert_eq!(still(s(0, 0), s(-2, 0)), Some(1));
+    assert_eq!(still(s(0, 0), s(0, 2)), Some(0));
+    assert_eq!(still(s(0, 0), s(1, -2)), Some(0));
+    // Corner to corner: every side shares one value.
+    assert_eq!(still(s(0, 0), s(2, 2)), Some(0));
+    // A corner in an edge of A, and in an edge of B alone.
+    assert_eq!(still(s(-5, -1), diamond.clone()), Some(1));
+    assert_eq!(still(diamond.clone(), s(3, -1)), Some(5));
+    // A hair less, and a hair more.
+    assert_eq!(still(s(0, 0), s(1, 0)), None);
+    assert_eq!(
+        verdict(&case(s(0, 0), s(3, 0), (0, 0), 10)),
+        Verdict::ClearByOne(1)
+    );
+    // Inside, also against an edge, in a corner, and the same once more.
+    assert_eq!(still(ten.clone(), s(4, 4)), None);
+    assert_eq!(still(ten.clone(), s(4, 8)), None);
+    assert_eq!(still(s(8, 0), ten.clone()), None);
+    assert_eq!(still(ten.clone(), ten.clone()), None);
+    assert_eq!(still(ten, points(&[(0, 0), (10, 5), (0, 10)])), None);
+    // Where they go from there does not matter, nor does the limit.
+    let moving = |x, y, limit| bearing_from_zero(&case(s(0, 0), s(2, 0), (x, y), limit));
+    assert_eq!(moving(1, 0, 10), (Some(1), Fraction::whole(0)));
+    assert_eq!(moving(-1, 0, 10), (Some(1), Fraction::whole(4)));
+    assert_eq!(moving(0, 1, 10), (Some(1), Fraction::whole(2)));
+    assert_eq!(moving(-1, 0, 0), (Some(1), Fraction::whole(0)));
+}
+
+/// A side bears at zero exactly if the outlines can be moved apart across it
+/// at once; otherwise no short step across any side parts them. Where they
+/// are in contact is found by corners and edges, not by projections.
+#[test]
+fn a_side_bears_at_zero_where_it_parts_the_outlines() {
+    let soon = Fraction::new(1, 10_000_000_000);
+    let mut counts = [0; 2];
+    for (class, m) in sample(300) {
+        if showing_at(&m, Fraction::whole(0)).is_none() {
+            continue;
+        }
+        let all = directions(&m);
+        let parts = |k: usize| {
+            [1, -1].iter().any(|&sign| {
+                let away = Move {
+                    velocity_a: point(0, 0),
+                    velocity_b: all[k].times(sign),
+                    ..m.clone()
+                };
+                showing_at(&away, soon).is_none()
+            })
+        };
+        match bearing_from_zero(&m).0 {
+            Some(side) => assert!(parts(side), "{class:?} {m:?}"),
+            None => assert!(!(0..all.len()).any(parts), "{class:?} {m:?}"),
+        }
+        counts[bearing_from_zero(&m).0.is_some() as usize] += 1;
+    }
+    assert!(counts.iter().all(|count| *count > 0));
+}
+
+/// At the first time of contact the projections on the bearing side share
+/// exactly one value, on lower sides at zero more than one.
+#[test]
+fn on_the_bearing_side_one_value_is_shared() {
+    for (class, m) in sample(300) {
+        let Verdict::Contact { first, bearing, .. } = verdict(&m) else {
+            continue;
+        };
+        let a = moved(&m.a, m.velocity_a, first);
+        let b = moved(&m.b, m.velocity_b, first);
+        let shared = |direction: Point| {
+            let (p, q) = (interval(&a, direction), interval(&b, direction));
+            p.1.min(q.1) - p.0.max(q.0)
+        };
+        let all = directions(&m);
+        let lower = bearing.unwrap_or(all.len());
+        if let Some(side) = bearing {
+            assert_eq!(shared(all[side]), 0, "{class:?} {m:?}");
+        }
+        for side in 0..lower {
+            assert!(first.n > 0 || shared(all[side]) > 0, "{class:?} {m:?}");
+        }
+    }
+}
+
+/// The classes of Q-1 that are never a hair off lie at zero as they say.
+#[test]
+fn classes_lie_at_zero_as_they_say() {
+    for (class, m) in sample(300) {
+        if [Class::Parting, Class::Closing, Class::Within].contains(&class) {
+            let (bearing, last) = bearing_from_zero(&m);
+            assert_eq!(bearing.is_none(), class == Class::Within, "{m:?}");
+            assert!(class != Class::Parting || last.n == 0, "{m:?}");
+            assert!(
+                class != Class::Closing || last.n > 0 || m.limit == 0,
+                "{m:?}"
+            );
         }
     }
 }
