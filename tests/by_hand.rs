@@ -261,7 +261,7 @@ enum Verdict {
     ClearByOne(usize),
     /// The sides with the greatest begin and the least end.
     ClearByTwo(usize, usize),
-    /// The same sides, and what shows.
+    /// The bearing side, the side with the least end, and what shows.
     Contact(usize, usize, Showing),
 }
 
@@ -286,16 +286,47 @@ fn verdict(m: &Move, sides: &[Side]) -> Verdict {
     if last.before(first) {
         return Verdict::ClearByTwo(i, j);
     }
-    check(first.n > 0, "each contact of the document is after time 0");
+    let bearing = if first.n > 0 {
+        i
+    } else {
+        touched_at_zero(sides)
+    };
+    check(
+        shared_at(&sides[bearing], first) == 0,
+        "at first the bearing side's intervals share exactly one value",
+    );
     let (a, b) = (moved(&m.a, m.va, first), moved(&m.b, m.vb, first));
     let of_a = a.iter().position(|&p| inside(&b, p));
     let of_b = b.iter().position(|&p| inside(&a, p));
     let showing = match (of_a, of_b) {
         (Some(i), _) => Showing::CornerOfA(i),
         (None, Some(j)) => Showing::CornerOfB(j),
-        (None, None) => panic!("edges show only at time 0"),
+        (None, None) => panic!("the document has no contact shown by edges"),
     };
-    Verdict::Contact(i, j, showing)
+    Verdict::Contact(bearing, j, showing)
+}
+
+/// The greater of the lows and the lesser of the highs at time 0.
+fn shared(s: &Side) -> (i128, i128) {
+    (s.a.0.max(s.b.0), s.a.1.min(s.b.1))
+}
+
+/// How long the part is that the intervals share at n/d, times d.
+fn shared_at(s: &Side, Time { n, d }: Time) -> i128 {
+    let at = |end: i128, speed: i128| d * end + n * speed;
+    let low = at(s.a.0, s.speed_a).max(at(s.b.0, s.speed_b));
+    at(s.a.1, s.speed_a).min(at(s.b.1, s.speed_b)) - low
+}
+
+/// The lowest side on which the intervals at time 0 share exactly one value.
+fn touched_at_zero(sides: &[Side]) -> usize {
+    let touched = |s: &Side| shared(s).0 == shared(s).1;
+    for s in sides {
+        let at_an_end = s.lo == 0 || s.hi == 0;
+        check(touched(s) == at_an_end, "one value where lo or hi is 0");
+    }
+    let side = sides.iter().position(touched);
+    side.expect("each contact of the document has a bearing side")
 }
 
 /// Weights on the corners of the outline for the point p, which is a corner
@@ -307,7 +338,7 @@ fn weights(outline: &[Point], p: Point) -> Vec<i128> {
         return all;
     }
     let on = crosses(outline, p).iter().position(|&c| c == 0);
-    let i = on.expect("after time 0 a contact begins on an edge");
+    let i = on.expect("where a side bears, a contact begins on an edge");
     let (step, part) = (edge(outline, i), p.minus(outline[i]));
     let (step, part) = match step.0 {
         0 => (step.1.abs(), part.1.abs()),
@@ -569,10 +600,13 @@ fn verdict_block(sides: &[Side], v: Verdict) -> String {
     ];
     let (l, r) = (first.n * last.d, last.n * first.d);
     let end = match v {
-        Verdict::Contact(bearing, ..) => format!(
-            "{l} does not exceed {r}: **contact from {first} to {last}**. \
-             First is above zero: the bearing side is {bearing}."
-        ),
+        Verdict::Contact(bearing, ..) => {
+            let bearing = match first.n {
+                0 => "First is zero: the bearing side is looked for at time 0.".to_string(),
+                _ => format!("First is above zero: the bearing side is {bearing}."),
+            };
+            format!("{l} does not exceed {r}: **contact from {first} to {last}**. {bearing}")
+        }
         Verdict::ClearByTwo(i, j) => format!(
             "{l} exceeds {r}, so the greatest begin exceeds the least end: \
              **clear by sides {i} and {j}**."
@@ -586,6 +620,33 @@ fn verdict_block(sides: &[Side], v: Verdict) -> String {
         last.d,
         last.n,
         first.d
+    )
+}
+
+/// The intervals at time 0, up to the bearing side.
+fn bearing_block(sides: &[Side], bearing: usize) -> String {
+    let row = |(k, s): (usize, &Side)| {
+        let (low, high) = shared(s);
+        let much = match high - low {
+            0 => format!("**one value: {low}**"),
+            _ => format!("more: from {low} to {high}"),
+        };
+        let (a, b) = (s.a, s.b);
+        let intervals = format!("{} to {} | {} to {}", a.0, a.1, b.0, b.1);
+        format!("{k} | {intervals} | {low} | {high} | {much}")
+    };
+    let rows: Vec<String> = sides[..=bearing].iter().enumerate().map(row).collect();
+    let head = "Side | A's interval | B's interval | Greater of the lows | Lesser of the highs | They share";
+    let s = &sides[bearing];
+    let value = shared(s).0;
+    let (low, high) = if s.a.1 == value {
+        ('A', 'B')
+    } else {
+        ('B', 'A')
+    };
+    format!(
+        "{}\nThe bearing side is {bearing}. On it {low} has no product above {value} and {high} none below.\n",
+        table(head, &rows)
     )
 }
 
@@ -843,7 +904,16 @@ fn print(name: &str, m: &Move, p1: &Move, sides: &[Side], v: Verdict) {
     }
     block("spans", spans_block(m, sides));
     block("verdict", verdict_block(sides, v));
-    block("apart", apart_block(m, sides, v));
+    match (v, extremes(sides)) {
+        (Verdict::Contact(bearing, ..), (Time { n: 0, .. }, last)) => {
+            check(
+                last == Time { n: m.limit, d: 1 },
+                "no time of the move is outside first to last",
+            );
+            block("bearing", bearing_block(sides, bearing));
+        }
+        _ => block("apart", apart_block(m, sides, v)),
+    }
     if let Verdict::Contact(_, _, showing) = v {
         let common = common_point(m, extremes(sides).0, showing);
         block("moved", moved_block(m, &common));
@@ -860,6 +930,7 @@ fn main() {
     for (name, line) in [
         ("P1", example(1)),
         ("F", F),
+        ("P9", example(9)),
         ("P3", example(3)),
         ("P6", example(6)),
     ] {
