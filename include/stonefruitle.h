@@ -27,7 +27,8 @@
  * Time     bounded, whatever is handed in. A longer line or list is refused
  *          unread. Each outline's 16 corners at most are tried against its 16
  *          edges. At most 32 sides are worked, each with 32 products for the
- *          corners and two for the velocities. For a contact, 2 times 16
+ *          corners and two for the velocities; for a contact from time zero
+ *          they are gone through once more at most. For a contact, 2 times 16
  *          corners at most are tried against 16 edges, and 256 pairs of edges
  *          in 4 directions; two fractions are brought to lowest terms by at
  *          most 43 divisions each. The slowest of 5802 moves of twice 16
@@ -100,6 +101,11 @@ extern "C" {
  * hexadecimal, so 7, 9 or 45 bytes. With refusal r from 2 to 9 they are the 7 bytes of 81 ff r with
  * 0a. With refusal 1 nothing is written to out and *written is 0. The bytes of
  * out after the line stay as they were.
+ *
+ * b is the side that bears: at the first time of contact the outlines' intervals
+ * on it share exactly one value. Where that time is zero it is the lowest such
+ * side; ff, none, where they share more than one value on every side: then the
+ * outlines overlap at time zero.
  */
 uint8_t stonefruitle_answer_line(const uint8_t *line, size_t line_length,
                                  uint8_t *out, size_t out_length,

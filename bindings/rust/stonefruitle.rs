@@ -206,7 +206,9 @@ pub enum Answer {
     Contact {
         first: Time,
         last: Time,
-        /// The side that bears, where contact does not begin at time zero.
+        /// The side that bears: at the first time the outlines' intervals on it share exactly one value. Where that time is
+        /// above zero it is the lowest side whose span begins then. At zero it is the lowest on which they share exactly one
+        /// value; none, if they share more than one on every side: then the outlines overlap.
         bearing: Option<u8>,
         showing: Showing,
     },

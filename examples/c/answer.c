@@ -52,6 +52,8 @@ int main(void)
                number(line + 20, 8), number(line + 28, 8));
         if (number(line + 36, 2) != 0xff)
             printf("bearing on side %lu\n", number(line + 36, 2));
+        else
+            printf("no side bears: the outlines overlap at time 0\n");
         unsigned long p = number(line + 40, 2), q = number(line + 42, 2);
         switch (number(line + 38, 2)) {
         case 0:

@@ -32,8 +32,9 @@ fn main() {
             showing,
         }) => {
             println!("contact from {first} to {last}");
-            if let Some(side) = bearing {
-                println!("bearing on side {side}");
+            match bearing {
+                Some(side) => println!("bearing on side {side}"),
+                None => println!("no side bears: the outlines overlap at time 0"),
             }
             match showing {
                 Showing::CornerOfA(i) => println!("shown by corner {i} of A"),
