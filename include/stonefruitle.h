@@ -32,7 +32,7 @@
  *          corners at most are tried against 16 edges, and 256 pairs of edges
  *          in 4 directions; two fractions are brought to lowest terms by at
  *          most 43 divisions each. The slowest of 5802 moves of twice 16
- *          corners took 12 microseconds on one core of an Intel Xeon server:
+ *          corners took 16 microseconds on one core of an Intel Xeon server:
  *          a figure of one machine, not a promise.
  * Memory   nothing is allocated and nothing is kept between calls: there are no
  *          globals and no locks, so calls are safe from several threads, each
