@@ -37,9 +37,6 @@ module _ (x y : ℤ) where
       go true e = (omega ints, omega ints, inr refl)
       go false e = (omega ints, omega ints, inl refl)
 
-same-ints : (x y : ℤ) → x ≤ℤ y → y ≤ℤ x → x ≡ y
-same-ints x y h k = omega ints
-
 module _ (D : Corner) (A B : List Corner) (some-a : 1 ≤ length A) (some-b : 1 ≤ length B) where
   low-high : (C : List Corner) → 1 ≤ length C → low D C ≤ℤ high D C
   low-high C h = let c = low-member D C h in omega (ints, c .2, high-bound D C (c .0) (c .1))
