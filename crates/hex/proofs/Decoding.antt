@@ -49,24 +49,24 @@ digits-true [] h = refl
 digits-true (c ∷ l) h = rw (lt-ltb (digit c) 16 (h 0 (omega arith))) (digits-true l (λ i k. h (suc i) (omega arith)))
 
 -- ---- the answers
-pub decoded-none : (l : List ℕ) → ¬ Textual l → decoded l ≡ noFrame
+pub decoded-none : (l : List ℕ) → ¬ Textual 282 l → decoded l ≡ noFrame
 unfolding decoded
-decoded-none l h = rw (textual-no l h)
+decoded-none l h = rw (textual-no 282 l h)
 
-pub decoded-text : (l : List ℕ) → Textual l → decoded l ≡ record { ok = true; frame = framed (unhex l) }
+pub decoded-text : (l : List ℕ) → Textual 282 l → decoded l ≡ record { ok = true; frame = framed (unhex l) }
 unfolding decoded
-decoded-text l t = rw (textual-true l t)
+decoded-text l t = rw (textual-true 282 l t)
 
 -- ---- a text that was decoded
-pub decoded-other : (l : List ℕ) (d : Decoded) → d ≡ decoded l → d .ok ≡ false → ¬ Textual l
+pub decoded-other : (l : List ℕ) (d : Decoded) → d ≡ decoded l → d .ok ≡ false → ¬ Textual 282 l
 decoded-other l d is e t = false≢true (sym e ∙ ap (λ x. x .ok) (is ∙ decoded-text l t))
 
 module _ (l : List ℕ) (d : Decoded) (is : d ≡ decoded l) (e : d .ok ≡ true) where
-  pub decoded-textual : Textual l
+  pub decoded-textual : Textual 282 l
   unfolding decoded
-  decoded-textual = go (textual l) (textual-yes l) (sym (ap (λ x. x .ok) is) ∙ e)
+  decoded-textual = go (textual 282 l) (textual-yes 282 l) (sym (ap (λ x. x .ok) is) ∙ e)
     where
-      go : (t : Bool) → (t ≡ true → Textual l) → cond t (record { ok = true; frame = framed (unhex l) }) noFrame .ok ≡ true → Textual l
+      go : (t : Bool) → (t ≡ true → Textual 282 l) → cond t (record { ok = true; frame = framed (unhex l) }) noFrame .ok ≡ true → Textual 282 l
       go true y k = y refl
       go false y k = absurd (false≢true k)
 

@@ -1,12 +1,14 @@
 -- Reading a text gives back the bytes that were written, and writing the bytes gives back the text: one digit by its range, a list by its members.
 use mathlib.Core.Path.{_≡_, refl, ap, ap₂}
 use mathlib.Core.Bool.{Bool, true, false, cond, and-eq-true-iff}
+use mathlib.Core.Logic.{inl, inr}
 use mathlib.Core.List.{List, [], _∷_}
 use Prim.Native.Nat.{ℕ, _+_, _-_, _*_, _/_, _%_, _≤_, _<_}
 use native.Mathlib.Omega.{arith}
 use lib.Dec.{ltb, leb}
 use lib.ListN.{length}
 use borrow.Author.Tests.{lt-ltb, le-ltb, le-leb, lt-leb, ltb-true, ltb-false, leb-true}
+use Rattle.whole.specs.Member.{Mem}
 use Rattle.hex.specs.Hex.{character, digit, hex, unhex, digits}
 use Rattle.hex.proofs.ByteLists.{Bytes}
 
@@ -88,6 +90,13 @@ unfolding digits
 digits-yes c cs d =
     let k = and-eq-true-iff (ltb (digit c) 16) (digits cs) .0 d in
     (ltb-true (digit c) 16 (k .0), k .1)
+
+-- 0a is no digit
+pub digits-unbroken : (l : List ℕ) → digits l ≡ true → ¬ Mem 10 l
+unfolding digit
+digits-unbroken [] e m = m
+digits-unbroken (c ∷ l) e (inl is) = omega (arith, ap digit is, digits-yes c l e .0)
+digits-unbroken (c ∷ l) e (inr m) = digits-unbroken l (digits-yes c l e .1) m
 
 pub hex-unhex : (cs : List ℕ) → length cs % 2 ≡ 0 → digits cs ≡ true → hex (unhex cs) ≡ cs
 unfolding hex unhex

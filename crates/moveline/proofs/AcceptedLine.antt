@@ -52,15 +52,15 @@ acceptedFrame-true f r = rw (eq-eqb (byteAt f 0) 1 (r .first), sized-true f (r .
 
 -- a line that is read
 pub record AcceptedLine (l : List ℕ) : Type 0 where
-  pub text : Textual l
+  pub text : Textual 282 l
   pub frame : AcceptedFrame (unhex l)
 
 pub acceptedLine-yes : (l : List ℕ) → refusalOfLine l ≡ 0 → AcceptedLine l
 unfolding refusalOfLine refusalOfFrame
 acceptedLine-yes l e =
-    let p = firstThatApplies-rest (2, not (textual l)) (reasonsOfFrame (unhex l)) (omega arith) e in
-    record { text = textual-yes l (not-false _ (p .0)); frame = acceptedFrame-yes (unhex l) (p .1) }
+    let p = firstThatApplies-rest (2, not (textual 282 l)) (reasonsOfFrame (unhex l)) (omega arith) e in
+    record { text = textual-yes 282 l (not-false _ (p .0)); frame = acceptedFrame-yes (unhex l) (p .1) }
 
 pub acceptedLine-true : (l : List ℕ) → AcceptedLine l → refusalOfLine l ≡ 0
 unfolding refusalOfLine refusalOfFrame firstThatApplies
-acceptedLine-true l r = rw (textual-true l (r .text)) (acceptedFrame-true (unhex l) (r .frame))
+acceptedLine-true l r = rw (textual-true 282 l (r .text)) (acceptedFrame-true (unhex l) (r .frame))

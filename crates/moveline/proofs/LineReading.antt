@@ -68,17 +68,17 @@ module _ (f : List ℕ) (s : Sized f) (h : HeldMove) (is : h ≡ heldMove (moveO
 
 -- ---- a line
 module _ (l : List ℕ) where
-  refusal-other : ¬ Textual l → refusalOfLine l ≡ 2
+  refusal-other : ¬ Textual 282 l → refusalOfLine l ≡ 2
   unfolding refusalOfLine firstThatApplies
-  refusal-other h = rw (textual-no l h)
+  refusal-other h = rw (textual-no 282 l h)
 
-  refusal-text : Textual l → refusalOfLine l ≡ refusalOfFrame (unhex l)
+  refusal-text : Textual 282 l → refusalOfLine l ≡ refusalOfFrame (unhex l)
   unfolding refusalOfLine refusalOfFrame firstThatApplies
-  refusal-text t = rw (textual-true l t)
+  refusal-text t = rw (textual-true 282 l t)
 
-  pub reading-other : ¬ Textual l → readingOfLine l ≡ refusedReading 2
+  pub reading-other : ¬ Textual 282 l → readingOfLine l ≡ refusedReading 2
   reading-other h = let e = refusal-other h in reading-some (refusalOfLine l) (moveOfLine l) (λ z. omega arith) ∙ ap refusedReading e
 
-  pub reading-text : Textual l → readingOfLine l ≡ readingOfFrame (unhex l)
+  pub reading-text : Textual 282 l → readingOfLine l ≡ readingOfFrame (unhex l)
   unfolding moveOfLine
   reading-text t = ap (λ r. readingUnless r (moveOfFrame (unhex l))) (refusal-text t)

@@ -7,8 +7,6 @@
 --   accepted         the move of an accepted line is accepted
 --   line-unbroken    an accepted line has no byte 0a
 use mathlib.Core.Path.{_≡_, refl, sym, ap, _∙_}
-use mathlib.Core.Bool.{true}
-use mathlib.Core.Logic.{inl, inr}
 use mathlib.Core.List.{List, [], _∷_, _++_}
 use Prim.Native.Nat.{ℕ}
 use native.Mathlib.Omega.{arith}
@@ -17,10 +15,10 @@ use Rattle.outline.proofs.Ranges.{counted-yes}
 use Rattle.moves.specs.Move.{Move}
 use Rattle.moves.specs.Refusal.{refusal}
 use Rattle.moves.proofs.Accepted.{accepted-yes}
-use Rattle.hex.specs.Hex.{digit, hex, unhex, digits}
+use Rattle.hex.specs.Hex.{hex, unhex}
 use Rattle.moveline.specs.MoveFrame.{moveFrame, moveLine, moveOfFrame}
 use Rattle.moveline.specs.Reading.{refusalOfLine, moveOfLine}
-use Rattle.hex.proofs.HexText.{unhex-hex, hex-digits, hex-length, digits-yes, hex-unhex, unhex-bytes}
+use Rattle.hex.proofs.HexText.{unhex-hex, hex-digits, hex-length, digits-unbroken, hex-unhex, unhex-bytes}
 use Rattle.moveline.proofs.FrameMove.{moveFrame-moveOfFrame, moveOfFrame-moveFrame, moveFrame-length, moveFrame-bytes}
 use Rattle.moveline.proofs.AcceptedLine.{AcceptedFrame, AcceptedLine, acceptedLine-yes, acceptedLine-true}
 
@@ -68,13 +66,6 @@ line-unique l k p q e = sym (written-read l p) ∙ ap (λ m. hex (moveFrame m)) 
 pub accepted : (l : List ℕ) → refusalOfLine l ≡ 0 → refusal (moveOfLine l) ≡ 0
 unfolding moveOfLine
 accepted l e = acceptedLine-yes l e .frame .move
-
--- ---- 0a is no digit
-digits-unbroken : (l : List ℕ) → digits l ≡ true → ¬ Mem 10 l
-unfolding digit
-digits-unbroken [] e m = m
-digits-unbroken (c ∷ l) e (inl is) = omega (arith, ap digit is, digits-yes c l e .0)
-digits-unbroken (c ∷ l) e (inr m) = digits-unbroken l (digits-yes c l e .1) m
 
 pub line-unbroken : (l : List ℕ) → refusalOfLine l ≡ 0 → ¬ Mem 10 l
 line-unbroken l e = digits-unbroken l (acceptedLine-yes l e .text .digital)

@@ -30,7 +30,7 @@ unfoldable pub refusalOfFrame : List ℕ → ℕ
 refusalOfFrame f = firstThatApplies (reasonsOfFrame f)
 
 unfoldable pub refusalOfLine : List ℕ → ℕ
-refusalOfLine l = firstThatApplies ((2, not (textual l)) ∷ reasonsOfFrame (unhex l))
+refusalOfLine l = firstThatApplies ((2, not (textual 282 l)) ∷ reasonsOfFrame (unhex l))
 
 unfoldable pub moveOfLine : List ℕ → Move
 moveOfLine l = moveOfFrame (unhex l)

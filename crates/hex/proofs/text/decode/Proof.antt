@@ -111,7 +111,7 @@ returns-6 c =
     let l = at .before .before .before .before .before .args .line .now in
     let end : at .loop .i ≡ length (unhex l) = omega (arith, unhex-length l) in
     let digital = digits-true l (λ j h. at .loop .inv .2 j (omega arith)) in
-    let text : Textual l = record { some = omega arith; even = omega arith; short = omega arith; digital = digital } in
+    let text : Textual 282 l = record { some = omega arith; even = omega arith; short = omega arith; digital = digital } in
     let filling = at .loop .inv .1 ∙ ap (filled (unhex l) 0 141) end ∙ filled-all (unhex l) 0 141 in
     let made : _≡_ {A = Decoded} (record { ok = true; frame = record { bytes = at .loop .bytes; count = length l / 2 } }) (record { ok = true; frame = framed (unhex l) }) = λ j. record { ok = true; frame = record { bytes = filling j; count = sym (unhex-length l) j } } in
     made ∙ sym (decoded-text l text)
