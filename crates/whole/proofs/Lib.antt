@@ -9,6 +9,7 @@ pub mod Flags
 pub mod Indices
 pub mod Members
 pub mod Tables
+pub mod Along
 pub mod Padding
 pub mod Divisors
 pub mod Fractions

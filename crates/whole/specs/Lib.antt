@@ -15,6 +15,7 @@ pub mod Member
 pub mod Lowest
 pub mod Best
 pub mod Table
+pub mod Along
 pub mod Padded
 pub mod Within
 pub mod Time
