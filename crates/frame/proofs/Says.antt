@@ -31,7 +31,9 @@ use Rattle.showing.specs.Showing.{cornerInside, meetingPair, showingOf, showing
 use Rattle.verdict.specs.Verdict.{touchingSide, verdictFrom, verdict}
 use Rattle.moves.specs.Refusal.{refusal, refusalOfLists}
 use Rattle.verdict.specs.Answer.{answerUnless, answerOfLists}
+use Rattle.moves.specs.Reading.{Readable}
 use Rattle.moves.specs.declared.HeldMove.{HeldMove}
+use Rattle.moves.specs.declared.Reading.{Reading}
 use Rattle.moves.proofs.Listed.{held-accepted, lists-accepted}
 use Rattle.verdict.proofs.SideSpans.{spans-length}
 use Rattle.verdict.proofs.FitSpans.{sideCount-is, spans-some, spans-made}
@@ -96,6 +98,10 @@ module _ (h : HeldMove) (f : Fit h) where
       (outcome-timed (natAbs (h .limit)) l (spans-some h f) (spans-made h f))
 
 -- ---- the answers
+pub sayable-reading : (r : Reading) → Readable r → Sayable (answerUnless (r .refusal) (moveHeld (r .held)))
+unfolding answerUnless
+sayable-reading r ok = cond-by Sayable (eqb (r .refusal) 0) _ _ (λ e. sayable-verdict (r .held) (ok (eqb-true (r .refusal) 0 e))) (λ e. tt)
+
 sayable-accepted : (m : Move) → refusal m ≡ 0 → Sayable (verdict m)
 sayable-accepted m e = let h = held-accepted m e in subst (λ x. Sayable (verdict x)) (h .1) (sayable-verdict (heldMove m) (h .0))
 

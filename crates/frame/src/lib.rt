@@ -2,13 +2,16 @@
 ghost use mathlib.Core.Path.{_≡_};
 ghost use Prim.Native.Nat.{_≤_};
 ghost use lib.ListN.{length};
-ghost use Rattle.verdict.specs.Answer.{answerOfLists};
+ghost use Rattle.moves.specs.HeldMove.{moveHeld};
+ghost use Rattle.moves.specs.Reading.{Readable};
+ghost use Rattle.verdict.specs.Answer.{answerUnless, answerOfLists};
 ghost use Rattle.frame.specs.AnswerOfLine.{answerOfLine};
 ghost use Rattle.frame.specs.Said.{refusalIn, Says};
 ghost use Rattle.frame.specs.Sayable.{Sayable};
 
 mod writer; // frames of answers
 
+use moves::Reading;
 use plane::Corner;
 use verdict::Answer;
 
@@ -49,6 +52,15 @@ fn put_answer(r: Answer, out: &mut [u8]) -> Written
         refusal: refusal_of(r),
         bytes: n,
     }
+}
+
+// Writes the answer line of a move that was read at the start of `out`; the bytes after it stay.
+pub fn put_answer_of(r: Reading, out: &mut [u8]) -> Written
+    requires { ⌜ Readable r × (45 ≤ length (now out)) ⌝ }
+    ensures { λ w. ⌜ Says (answerUnless (r .refusal) (moveHeld (r .held))) w (now (out .entry)) (now (out .exit)) ⌝ }
+{
+    let x = verdict::answer_of(r);
+    put_answer(x, out)
 }
 
 // Writes the answer line of a line at the start of `out`; the bytes after it stay.

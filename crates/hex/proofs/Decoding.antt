@@ -6,6 +6,7 @@ use Prim.Native.Nat.{ℕ, zero, suc, _+_, _-_, _*_, _/_, _≤_, _<_}
 use native.Mathlib.Decide.{decLt}
 use native.Mathlib.Omega.{arith}
 use lib.ListN.{length, getD, replicate, length-append}
+use lib.Seq.{getD-take}
 use borrow.Author.Tests.{lt-ltb}
 use Rattle.hex.specs.Hex.{digit, unhex, digits}
 use Rattle.hex.specs.Frame.{framed, frameBytes}
@@ -81,3 +82,6 @@ module _ (l : List ℕ) (d : Decoded) (is : d ≡ decoded l) (e : d .ok ≡ true
 
   pub decoded-fits : d .frame .count ≤ length (d .frame .bytes)
   decoded-fits = omega (arith, decoded-count, ap (λ f. length (f .bytes)) decoded-frame, length-append (unhex l) (replicate (141 - length (unhex l)) 0))
+
+  pub decoded-byte : (i : ℕ) → i < length (unhex l) → getD (d .frame .bytes) i 0 ≡ getD (unhex l) i 0
+  decoded-byte i h = sym (getD-take (d .frame .count) (d .frame .bytes) i 0 (omega (arith, decoded-count))) ∙ ap (λ f. getD f i 0) decoded-bytes

@@ -9,7 +9,7 @@ use moves::lists;
 use moves::refusals;
 
 // The move of a frame, or 3 to 9, the first that applies.
-fn read_frame(frame: &[u8]) -> Reading
+pub fn read_frame(frame: &[u8]) -> Reading
     requires { ⌜ 1 ≤ length (now frame) ⌝ }
     ensures { λ r. ⌜ r ≡ readingOfFrame (now (frame .entry)) ⌝ }
 {

@@ -1,7 +1,7 @@
--- Where the number of the first reason that applies is 0, no reason applies: each number is above 0, so a reason that applied would show.
+-- Where the number of the first reason that applies is 0, no reason applies: each number is above 0, so a reason that applied would show. Of two lists the second counts where none of the first applies.
 use mathlib.Core.Path.{_≡_, refl}
 use mathlib.Core.Bool.{Bool, true, false, cond}
-use mathlib.Core.List.{List, [], _∷_}
+use mathlib.Core.List.{List, [], _∷_, _++_}
 use Prim.Native.Nat.{_<_}
 use native.Mathlib.Omega.{arith}
 use Rattle.outline.specs.Refusal.{Reason, firstThatApplies}
@@ -30,3 +30,17 @@ firstThatApplies-none [] n e = tt
 firstThatApplies-none (r ∷ rs) n e =
     let f = firstThatApplies-rest r rs (n .0) e in
     (f .0, firstThatApplies-none rs (n .1) (f .1))
+
+pub firstThatApplies-some : (rs qs : List Reason) → ¬ (firstThatApplies rs ≡ 0) → firstThatApplies (rs ++ qs) ≡ firstThatApplies rs
+unfolding firstThatApplies
+firstThatApplies-some [] qs n = absurd (n refl)
+firstThatApplies-some (r ∷ rs) qs n = go (r .1) n (firstThatApplies-some rs qs)
+  where
+    go : (t : Bool) → ¬ (cond t (r .0) (firstThatApplies rs) ≡ 0) → (¬ (firstThatApplies rs ≡ 0) → firstThatApplies (rs ++ qs) ≡ firstThatApplies rs) → cond t (r .0) (firstThatApplies (rs ++ qs)) ≡ cond t (r .0) (firstThatApplies rs)
+    go true h rest = refl
+    go false h rest = rest h
+
+pub firstThatApplies-next : (rs qs : List Reason) → Numbered rs → firstThatApplies rs ≡ 0 → firstThatApplies (rs ++ qs) ≡ firstThatApplies qs
+unfolding firstThatApplies
+firstThatApplies-next [] qs n e = refl
+firstThatApplies-next (r ∷ rs) qs n e = let f = firstThatApplies-rest r rs (n .0) e in rw (f .0) (firstThatApplies-next rs qs (n .1) (f .1))
