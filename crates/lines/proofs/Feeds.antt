@@ -78,7 +78,7 @@ same-fed p q = cc
 
 -- ---- what is known between two lines: the first `at` bytes of s are taken, and out′ is out with their answers, `written` bytes, over its first
 pub record SoFar (u s out : List ℕ) (at written : ℕ) (b : Begun) (out′ : List ℕ) : Type 0 where
-  pub few : length u ≤ 283
+  pub few : length u ≤ 289
   pub room : answersRoom (length s) ≤ length out
   pub within : at ≤ length s
   pub begun : b ≡ begunWith (kept (unfinished u (take at s)))
@@ -92,7 +92,7 @@ fed-none b s out h room =
       few = omega (arith, held-count b h, h .few);
       room = room;
       within = omega arith;
-      begun = h .is ∙ ap begunWith (sym (take-all 283 (begunBytes b) (omega (arith, held-count b h, h .few))));
+      begun = h .is ∙ ap begunWith (sym (take-all 289 (begunBytes b) (omega (arith, held-count b h, h .few))));
       count = refl;
       output = refl;
     }

@@ -1,4 +1,4 @@
--- The answers do not depend on how the input is cut: what a part closes is answered with it, and of a line begun its first 283 bytes say all that its answer needs.
+-- The answers do not depend on how the input is cut: what a part closes is answered with it, and of a line begun its first 289 bytes say all that its answer needs.
 use mathlib.Core.Path.{_≡_, refl, sym, _∙_, ap, ap₂}
 use mathlib.Core.Bool.{Bool, true, false, cond, _&&_}
 use mathlib.Core.Logic.{_⊎_, inl, inr, ⊎-elim}
@@ -56,21 +56,25 @@ abbrev Alike : List ℕ → List ℕ → Type 0
 Alike u v = kept u ≡ kept v
 
 -- either both are short, and so the same, or both are too long
-alike-cases : (u v : List ℕ) → Alike u v → (u ≡ v) ⊎ ((283 ≤ length u) × (283 ≤ length v))
-alike-cases u v e = go (decLe 283 (length u))
+alike-cases : (u v : List ℕ) → Alike u v → (u ≡ v) ⊎ ((289 ≤ length u) × (289 ≤ length v))
+alike-cases u v e = go (decLe 289 (length u))
   where
-    same-length : min 283 (length u) ≡ min 283 (length v)
-    same-length = sym (length-take 283 u) ∙ ap length e ∙ length-take 283 v
+    same-length : min 289 (length u) ≡ min 289 (length v)
+    same-length = sym (length-take 289 u) ∙ ap length e ∙ length-take 289 v
 
-    go : Dec (283 ≤ length u) → (u ≡ v) ⊎ ((283 ≤ length u) × (283 ≤ length v))
+    go : Dec (289 ≤ length u) → (u ≡ v) ⊎ ((289 ≤ length u) × (289 ≤ length v))
     go (yes h) = inr (h, omega (arith, same-length))
-    go (no h) = inl (sym (take-all 283 u (omega arith)) ∙ e ∙ take-all 283 v (omega (arith, same-length)))
+    go (no h) = inl (sym (take-all 289 u (omega arith)) ∙ e ∙ take-all 289 v (omega (arith, same-length)))
+
+-- what is kept of a longer line is still too long
+long : {n : ℕ} → 289 ≤ n → 282 < n
+long h = omega arith
 
 alike-answer : (u v : List ℕ) → Alike u v → answerOfLine u ≡ answerOfLine v
-alike-answer u v e = ⊎-elim (ap answerOfLine) (λ h. long-refused u (h .0) ∙ sym (long-refused v (h .1))) (alike-cases u v e)
+alike-answer u v e = ⊎-elim (ap answerOfLine) (λ h. long-refused u (long (h .0)) ∙ sym (long-refused v (long (h .1)))) (alike-cases u v e)
 
 alike-append : (u v s : List ℕ) → Alike u v → Alike (u ++ s) (v ++ s)
-alike-append u v s e = ⊎-elim (λ p. ap (λ t. kept (t ++ s)) p) (λ h. take-append-le 283 u s (h .0) ∙ e ∙ sym (take-append-le 283 v s (h .1))) (alike-cases u v e)
+alike-append u v s e = ⊎-elim (λ p. ap (λ t. kept (t ++ s)) p) (λ h. take-append-le 289 u s (h .0) ∙ e ∙ sym (take-append-le 289 v s (h .1))) (alike-cases u v e)
 
 alike-answers : (u v s : List ℕ) → Alike u v → answersTo u s ≡ answersTo v s
 unfolding answersTo finished flatMap
@@ -94,7 +98,7 @@ alike-unfinished u v (c ∷ s) e = go (eqb c 10) (alike-unfinished (u ++ (c ∷ 
     go false h = h
 
 kept-alike : (u : List ℕ) → Alike (kept u) u
-kept-alike u = take-take 283 283 u (omega arith)
+kept-alike u = take-take 289 289 u (omega arith)
 
 pub answers-kept : (u s : List ℕ) → answersTo (kept u) s ≡ answersTo u s
 answers-kept u s = alike-answers (kept u) u s (kept-alike u)
@@ -113,7 +117,7 @@ answer-kept-append u s = alike-answer (kept u ++ s) (u ++ s) (alike-append (kept
 
 none-kept : (u : List ℕ) → eqb (length (kept u)) 0 ≡ eqb (length u) 0
 none-kept [] = refl
-none-kept (c ∷ u) = eqb·suc-zero (length (take 282 u)) ∙ sym (eqb·suc-zero (length u))
+none-kept (c ∷ u) = eqb·suc-zero (length (take 288 u)) ∙ sym (eqb·suc-zero (length u))
 
 pub last-kept : (u : List ℕ) → lastAnswer (kept u) ≡ lastAnswer u
 unfolding lastAnswer

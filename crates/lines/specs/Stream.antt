@@ -1,7 +1,7 @@
 -- The answers to an input that comes in parts.
 --   answersTo u s    the answer lines of the lines that the part s closes, where the bytes u of a line have come before it
 --   lastAnswer u     the answer line of the bytes u that stand begun at the end of the input: none where there are none
---   kept u           what has to be kept of a line begun: its first 283 bytes, since a line of more than 282 is refused whatever it holds
+--   kept u           what has to be kept of a line begun: its first 289 bytes, since a line of more than 288 is refused whatever it holds
 use mathlib.Core.Bool.{cond}
 use mathlib.Core.List.{List, [], flatMap}
 use Prim.Native.Nat.{ℕ}
@@ -17,4 +17,4 @@ unfoldable pub lastAnswer : List ℕ → List ℕ
 lastAnswer u = cond (eqb (length u) 0) [] (answerTo u)
 
 abbrev pub kept : List ℕ → List ℕ
-kept u = take 283 u
+kept u = take 289 u

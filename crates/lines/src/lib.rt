@@ -6,9 +6,9 @@ ghost use Rattle.lines.specs.Taking.{lineAt, Takes};
 
 pub mod stream; // the answers to an input that comes in parts
 
-// A line begun: its first 283 bytes, unused ones zero, and their count. A line of more than 282 is refused whatever it holds.
+// A line begun: its first 289 bytes, unused ones zero, and their count. A line of more than 288 is refused whatever it holds.
 pub struct Begun {
-    pub bytes: [u8; 283],
+    pub bytes: [u8; 289],
     pub count: usize,
 }
 

@@ -16,7 +16,7 @@ pub fn none() -> Begun
     ensures { λ r. ⌜ r ≡ begunWith [] ⌝ }
 {
     Begun {
-        bytes: [0; 283],
+        bytes: [0; 289],
         count: 0,
     }
 }
@@ -28,7 +28,7 @@ fn extended(b: Begun, piece: &[u8]) -> Begun
 {
     let from = b.count;
     let mut bytes = b.bytes;
-    let mut room = 283 - from;
+    let mut room = 289 - from;
     if piece.len() < room {
         room = piece.len();
     }

@@ -15,7 +15,7 @@ use Rattle.lines.proofs.stream.extended.Tie as tie
 
 abbrev Inv-loop : tie.InvT-loop
 Inv-loop piece from bytes₀ room i₀ bytes i =
-    (i ≤ room) × (from + room ≡ min 283 (from + length piece)) × (bytes ≡ filled (kept (take from bytes₀ ++ piece)) 0 283 (from + i))
+    (i ≤ room) × (from + room ≡ min 289 (from + length piece)) × (bytes ≡ filled (kept (take from bytes₀ ++ piece)) 0 289 (from + i))
 
 abbrev μ-loop : tie.MeasureT-loop
 μ-loop piece from bytes₀ room i₀ bytes i = room - i
@@ -28,7 +28,7 @@ loop-holds c =
     let b = c .before .before .args .b in
     let held = c .before .before .pre in
     let p = c .before .before .args .piece .now in
-    let room : c .if1 .room ≡ min (length p) (283 - b .count) = ⊎-elim (λ t. let h = t .0 .taken in omega (arith, t .1)) (λ t. let h = t .0 .left in omega (arith, t .1)) (c .if1 .came) in
+    let room : c .if1 .room ≡ min (length p) (289 - b .count) = ⊎-elim (λ t. let h = t .0 .taken in omega (arith, t .1)) (λ t. let h = t .0 .left in omega (arith, t .1)) (c .if1 .came) in
     (omega arith, omega (arith, held .few), rw add-zero (longer-begun b held p))
 
 shared-slice-read-bytes : tie.Need-shared-slice-read-bytes Inv-loop μ-loop
