@@ -18,8 +18,8 @@ take-line-determined κs = determined (λ a r e p. all-three (p .0) (p .1) (p .2
 pub none-determined : (κs : Lfts 0) → Determined (none.Learnt κs) (λ r e. r)
 none-determined κs = determined (λ a r e p. p)
 
-pub finish-determined : (κs : Lfts 1) → Determined {Y = ℕ × List ℕ} (finish.Learnt κs) (λ r e. (r, now (e .1 .0)))
+pub finish-determined : (κs : Lfts 1) → Determined {Y = ℕ × List ℕ} (finish.Learnt κs) (λ r e. (r, now (e .1 .1 .0)))
 finish-determined κs = determined (λ a r e p. both (p .0) (p .1))
 
-pub feed-determined : (κs : Lfts 2) → Determined {Y = Fed × List ℕ} (feed.Learnt κs) (λ r e. (r, now (e .1 .1 .0)))
+pub feed-determined : (κs : Lfts 2) → Determined {Y = Fed × List ℕ} (feed.Learnt κs) (λ r e. (r, now (e .1 .1 .1 .0)))
 feed-determined κs = determined (λ a r e p. both (p .0) (p .1))

@@ -2,8 +2,11 @@ pub mod LineParts
 pub mod Joined
 pub mod Chunks
 pub mod Taken
+pub mod Answers
 pub mod Parts
 pub mod Room
+pub mod BareLines
+pub mod Modes
 pub mod Beginnings
 pub mod Feeds
 pub mod Program

@@ -1,56 +1,23 @@
--- The answers do not depend on how the input is cut: what a part closes is answered with it, and of a line begun its first 289 bytes say all that its answer needs.
+-- The answers do not depend on how the input is cut: what a part closes is answered with it, and of a line begun its first 289 bytes say all that its answer and the state after it need.
 use mathlib.Core.Path.{_≡_, refl, sym, _∙_, ap, ap₂}
-use mathlib.Core.Bool.{Bool, true, false, cond, _&&_}
+use mathlib.Core.Bool.{Bool, true, false, cond}
 use mathlib.Core.Logic.{_⊎_, inl, inr, ⊎-elim}
-use mathlib.Core.List.{List, [], _∷_, _++_, flatMap, append-assoc, append-nil}
-use Prim.Native.Nat.{ℕ, _≤_, _<_, min}
+use mathlib.Core.List.{List, [], _∷_, _++_}
+use Prim.Native.Nat.{ℕ, _≤_, min}
 use native.Mathlib.Decide.{decLe}
 use native.Mathlib.Omega.{arith}
 use lib.Dec.{eqb, eqb·suc-zero}
 use lib.ListN.{length, take, length-take}
 use lib.Seq.{take-all, take-append-le, take-take}
-use borrow.Author.Tests.{lt-leb}
-use Rattle.outline.specs.Refusal.{firstThatApplies}
-use Rattle.verdict.specs.Answer.{answerUnless}
-use Rattle.verdict.specs.declared.Answer.the-variants.{Refused}
-use Rattle.frame.specs.AnswerFrame.{answerLine}
-use Rattle.moveline.specs.Reading.{refusalOfLine}
-use Rattle.frame.specs.AnswerOfLine.{answerOfLine}
+use Rattle.whole.specs.Along.{after}
+use Rattle.whole.proofs.Along.{after-append}
 use Rattle.lines.specs.Lines.{finished, unfinished, lastLine, linesOf}
-use Rattle.lines.specs.Output.{answerTo, output}
-use Rattle.lines.specs.Stream.{answersTo, lastAnswer, kept}
+use Rattle.lines.specs.Steps.{Step, answers, outputOf, Steady}
+use Rattle.lines.specs.Stream.{answersTo, stateAfter, lastAnswer, kept}
 use Rattle.lines.proofs.Chunks.{finished-append}
+use Rattle.lines.proofs.Answers.{answers-none, answers-step, answers-one, answers-join}
 
--- ---- flatMap goes through a join
-flatMap-append : (f : List ℕ → List ℕ) (x y : List (List ℕ)) → flatMap f (x ++ y) ≡ flatMap f x ++ flatMap f y
-unfolding flatMap
-flatMap-append f [] y = refl
-flatMap-append f (l ∷ x) y = ap (λ t. f l ++ t) (flatMap-append f x y) ∙ sym (append-assoc (f l) (flatMap f x) (flatMap f y))
-
-pub answers-append : (u x y : List ℕ) → answersTo u (x ++ y) ≡ answersTo u x ++ answersTo (unfinished u x) y
-unfolding answersTo
-answers-append u x y = ap (flatMap (λ l. answerTo l)) (finished-append u x y) ∙ flatMap-append (λ l. answerTo l) (finished u x) (finished (unfinished u x) y)
-
--- the whole output: the lines that are closed, and the one that is not
-pub output-is : (s : List ℕ) → output s ≡ answersTo [] s ++ lastAnswer (unfinished [] s)
-unfolding output answersTo lastAnswer linesOf flatMap
-output-is s = flatMap-append (λ l. answerTo l) (finished [] s) (lastLine (unfinished [] s)) ∙ ap (λ t. flatMap (λ l. answerTo l) (finished [] s) ++ t) (last (eqb (length (unfinished [] s)) 0))
-  where
-    last : (t : Bool) → flatMap (λ l. answerTo l) (cond t [] (unfinished [] s ∷ [])) ≡ cond t [] (answerTo (unfinished [] s))
-    last true = refl
-    last false = append-nil (answerTo (unfinished [] s))
-
--- ---- a line of more than 282 bytes is refused
-and-never : (s t : Bool) → (s && (t && false)) ≡ false
-and-never true true = refl
-and-never true false = refl
-and-never false t = refl
-
-pub long-refused : (l : List ℕ) → 282 < length l → answerOfLine l ≡ Refused 2
-unfolding answerOfLine refusalOfLine firstThatApplies answerUnless
-long-refused l h = simp (lt-leb (length l) 282 h, and-never)
-
--- ---- what is kept of a line begun decides its answer
+-- ---- what is kept of a line begun
 -- two beginnings that agree in what is kept
 abbrev Alike : List ℕ → List ℕ → Type 0
 Alike u v = kept u ≡ kept v
@@ -66,27 +33,8 @@ alike-cases u v e = go (decLe 289 (length u))
     go (yes h) = inr (h, omega (arith, same-length))
     go (no h) = inl (sym (take-all 289 u (omega arith)) ∙ e ∙ take-all 289 v (omega (arith, same-length)))
 
--- what is kept of a longer line is still too long
-long : {n : ℕ} → 289 ≤ n → 282 < n
-long h = omega arith
-
-alike-answer : (u v : List ℕ) → Alike u v → answerOfLine u ≡ answerOfLine v
-alike-answer u v e = ⊎-elim (ap answerOfLine) (λ h. long-refused u (long (h .0)) ∙ sym (long-refused v (long (h .1)))) (alike-cases u v e)
-
 alike-append : (u v s : List ℕ) → Alike u v → Alike (u ++ s) (v ++ s)
 alike-append u v s e = ⊎-elim (λ p. ap (λ t. kept (t ++ s)) p) (λ h. take-append-le 289 u s (h .0) ∙ e ∙ sym (take-append-le 289 v s (h .1))) (alike-cases u v e)
-
-alike-answers : (u v s : List ℕ) → Alike u v → answersTo u s ≡ answersTo v s
-unfolding answersTo finished flatMap
-alike-answers u v [] e = refl
-alike-answers u v (c ∷ s) e = go (eqb c 10) (alike-answers (u ++ (c ∷ [])) (v ++ (c ∷ [])) s (alike-append u v (c ∷ []) e))
-  where
-    says : List (List ℕ) → List ℕ
-    says ls = flatMap (λ l. answerTo l) ls
-
-    go : (t : Bool) → says (finished (u ++ (c ∷ [])) s) ≡ says (finished (v ++ (c ∷ [])) s) → says (cond t (u ∷ finished [] s) (finished (u ++ (c ∷ [])) s)) ≡ says (cond t (v ∷ finished [] s) (finished (v ++ (c ∷ [])) s))
-    go true h = ap (λ r. answerLine r ++ says (finished [] s)) (alike-answer u v e)
-    go false h = h
 
 alike-unfinished : (u v s : List ℕ) → Alike u v → Alike (unfinished u s) (unfinished v s)
 unfolding unfinished
@@ -100,25 +48,84 @@ alike-unfinished u v (c ∷ s) e = go (eqb c 10) (alike-unfinished (u ++ (c ∷ 
 kept-alike : (u : List ℕ) → Alike (kept u) u
 kept-alike u = take-take 289 289 u (omega arith)
 
-pub answers-kept : (u s : List ℕ) → answersTo (kept u) s ≡ answersTo u s
-answers-kept u s = alike-answers (kept u) u s (kept-alike u)
-
 pub unfinished-kept : (u s : List ℕ) → kept (unfinished (kept u) s) ≡ kept (unfinished u s)
 unfinished-kept u s = alike-unfinished (kept u) u s (kept-alike u)
 
 pub kept-append : (u s : List ℕ) → kept (kept u ++ s) ≡ kept (u ++ s)
 kept-append u s = alike-append (kept u) u s (kept-alike u)
 
-pub answer-kept : (u : List ℕ) → answerOfLine (kept u) ≡ answerOfLine u
-answer-kept u = alike-answer (kept u) u (kept-alike u)
-
-pub answer-kept-append : (u s : List ℕ) → answerOfLine (kept u ++ s) ≡ answerOfLine (u ++ s)
-answer-kept-append u s = alike-answer (kept u ++ s) (u ++ s) (alike-append (kept u) u s (kept-alike u))
-
 none-kept : (u : List ℕ) → eqb (length (kept u)) 0 ≡ eqb (length u) 0
 none-kept [] = refl
 none-kept (c ∷ u) = eqb·suc-zero (length (take 288 u)) ∙ sym (eqb·suc-zero (length u))
 
-pub last-kept : (u : List ℕ) → lastAnswer (kept u) ≡ lastAnswer u
-unfolding lastAnswer
-last-kept u = ap₂ (λ t r. cond t [] (answerLine r)) (none-kept u) (answer-kept u)
+module _ {S : Type 0} (p : Step S) where
+  -- ---- a part, and then more
+  pub answers-append : (s : S) (u x y : List ℕ) → answersTo p s u (x ++ y) ≡ answersTo p s u x ++ answersTo p (stateAfter p s u x) (unfinished u x) y
+  unfolding answersTo stateAfter
+  answers-append s u x y = ap (answers p s) (finished-append u x y) ∙ answers-join p s (finished u x) (finished (unfinished u x) y)
+
+  pub state-append : (s : S) (u x y : List ℕ) → stateAfter p s u (x ++ y) ≡ stateAfter p (stateAfter p s u x) (unfinished u x) y
+  unfolding stateAfter
+  state-append s u x y = ap (after (p .next) s) (finished-append u x y) ∙ after-append (p .next) s (finished u x) (finished (unfinished u x) y)
+
+  -- the whole output: the lines that are closed, and the one that is not
+  pub output-is : (s : S) (i : List ℕ) → outputOf p s i ≡ answersTo p s [] i ++ lastAnswer p (stateAfter p s [] i) (unfinished [] i)
+  unfolding outputOf answersTo stateAfter lastAnswer linesOf
+  output-is s i =
+      let on = after (p .next) s (finished [] i) in
+      answers-join p s (finished [] i) (lastLine (unfinished [] i)) ∙ ap (λ t. answers p s (finished [] i) ++ t) (last on (eqb (length (unfinished [] i)) 0))
+    where
+      last : (on : S) (t : Bool) → answers p on (cond t [] (unfinished [] i ∷ [])) ≡ cond t [] (p .says on (unfinished [] i))
+      last on true = answers-none p on
+      last on false = answers-one p on (unfinished [] i)
+
+  -- ---- what is kept of a line begun decides its answer and the state after it
+  module _ (steady : Steady p) where
+    alike-says : (s : S) (u v : List ℕ) → Alike u v → p .says s u ≡ p .says s v
+    alike-says s u v e = ⊎-elim (ap (p .says s)) (λ h. steady .long-says s u v (h .0) (h .1)) (alike-cases u v e)
+
+    alike-next : (s : S) (u v : List ℕ) → Alike u v → p .next s u ≡ p .next s v
+    alike-next s u v e = ⊎-elim (ap (p .next s)) (λ h. steady .long-next s u v (h .0) (h .1)) (alike-cases u v e)
+
+    alike-answers : (s : S) (u v part : List ℕ) → Alike u v → answersTo p s u part ≡ answersTo p s v part
+    unfolding answersTo finished
+    alike-answers s u v [] e = refl
+    alike-answers s u v (c ∷ r) e = go (eqb c 10) (alike-answers s (u ++ (c ∷ [])) (v ++ (c ∷ [])) r (alike-append u v (c ∷ []) e))
+      where
+        go : (t : Bool) → answers p s (finished (u ++ (c ∷ [])) r) ≡ answers p s (finished (v ++ (c ∷ [])) r) → answers p s (cond t (u ∷ finished [] r) (finished (u ++ (c ∷ [])) r)) ≡ answers p s (cond t (v ∷ finished [] r) (finished (v ++ (c ∷ [])) r))
+        go true h = answers-step p s u (finished [] r) ∙ ap₂ (λ a n. a ++ answers p n (finished [] r)) (alike-says s u v e) (alike-next s u v e) ∙ sym (answers-step p s v (finished [] r))
+        go false h = h
+
+    alike-state : (s : S) (u v part : List ℕ) → Alike u v → stateAfter p s u part ≡ stateAfter p s v part
+    unfolding stateAfter finished after
+    alike-state s u v [] e = refl
+    alike-state s u v (c ∷ r) e = go (eqb c 10) (alike-state s (u ++ (c ∷ [])) (v ++ (c ∷ [])) r (alike-append u v (c ∷ []) e))
+      where
+        ends : List (List ℕ) → S
+        ends ls = after (p .next) s ls
+
+        go : (t : Bool) → ends (finished (u ++ (c ∷ [])) r) ≡ ends (finished (v ++ (c ∷ [])) r) → ends (cond t (u ∷ finished [] r) (finished (u ++ (c ∷ [])) r)) ≡ ends (cond t (v ∷ finished [] r) (finished (v ++ (c ∷ [])) r))
+        go true h = ap (λ n. after (p .next) n (finished [] r)) (alike-next s u v e)
+        go false h = h
+
+    pub answers-kept : (s : S) (u part : List ℕ) → answersTo p s (kept u) part ≡ answersTo p s u part
+    answers-kept s u part = alike-answers s (kept u) u part (kept-alike u)
+
+    pub state-kept : (s : S) (u part : List ℕ) → stateAfter p s (kept u) part ≡ stateAfter p s u part
+    state-kept s u part = alike-state s (kept u) u part (kept-alike u)
+
+    pub says-kept : (s : S) (u : List ℕ) → p .says s (kept u) ≡ p .says s u
+    says-kept s u = alike-says s (kept u) u (kept-alike u)
+
+    pub next-kept : (s : S) (u : List ℕ) → p .next s (kept u) ≡ p .next s u
+    next-kept s u = alike-next s (kept u) u (kept-alike u)
+
+    pub says-kept-append : (s : S) (u r : List ℕ) → p .says s (kept u ++ r) ≡ p .says s (u ++ r)
+    says-kept-append s u r = alike-says s (kept u ++ r) (u ++ r) (alike-append (kept u) u r (kept-alike u))
+
+    pub next-kept-append : (s : S) (u r : List ℕ) → p .next s (kept u ++ r) ≡ p .next s (u ++ r)
+    next-kept-append s u r = alike-next s (kept u ++ r) (u ++ r) (alike-append (kept u) u r (kept-alike u))
+
+    pub last-kept : (s : S) (u : List ℕ) → lastAnswer p s (kept u) ≡ lastAnswer p s u
+    unfolding lastAnswer
+    last-kept s u = ap₂ (λ t a. cond t [] a) (none-kept u) (says-kept s u)

@@ -6,15 +6,27 @@ ghost use Rattle.lines.specs.Taking.{lineAt, Takes};
 
 pub mod stream; // the answers to an input that comes in parts
 
+// How lines are answered, and what is kept from one to the next: bare lines, each by itself.
+pub enum Mode {
+    Bare,
+}
+
 // A line begun: its first 289 bytes, unused ones zero, and their count. A line of more than 288 is refused whatever it holds.
 pub struct Begun {
     pub bytes: [u8; 289],
     pub count: usize,
 }
 
-// What feeding a part did: the line that stands begun after it, and how many bytes were written.
+// What a line did: the mode after it, and how many bytes were written.
+pub struct Stepped {
+    pub mode: Mode,
+    pub written: usize,
+}
+
+// What feeding a part did: the line that stands begun after it, the mode after the lines that it closed, and how many bytes were written.
 pub struct Fed {
     pub begun: Begun,
+    pub mode: Mode,
     pub written: usize,
 }
 

@@ -4,12 +4,14 @@ ghost use mathlib.Core.List.{[], _++_};
 ghost use Prim.Native.Nat.{_≤_};
 ghost use lib.ListN.{length};
 ghost use Rattle.hex.specs.Text.{Puts};
-ghost use Rattle.lines.specs.Output.{answerTo};
+ghost use Rattle.lines.specs.Steps.{program};
 ghost use Rattle.lines.specs.Stream.{kept, lastAnswer};
 ghost use Rattle.lines.specs.Begun.{begunWith, begunBytes, Holds};
-ghost use Rattle.lines.specs.Feeding.{answersRoom, Feeds};
+ghost use Rattle.lines.specs.Feeding.{answersRoom, AnswersLine, Feeds};
 use super::Begun;
 use super::Fed;
+use super::Mode;
+use super::Stepped;
 
 // No byte of a line begun.
 pub fn none() -> Begun
@@ -43,28 +45,43 @@ fn extended(b: Begun, piece: &[u8]) -> Begun
     }
 }
 
-// Writes the answer to the line begun with b that the piece closes, and returns its length. Only a line of which a part came before is put together first.
-fn put_closed(b: Begun, piece: &[u8], out: &mut [u8]) -> usize
+// Writes the answer to a line in a mode. Each mode has its arm.
+fn answer_in(mode: Mode, line: &[u8], out: &mut [u8]) -> Stepped
+    requires { ⌜ 45 ≤ length (now out) ⌝ }
+    ensures { λ r. ⌜ AnswersLine mode (now (line .entry)) r (now (out .entry)) (now (out .exit)) ⌝ }
+{
+    match mode {
+        Mode::Bare => {
+            let answer = frame::put_answer_of_line(line, out);
+            Stepped {
+                mode: Mode::Bare,
+                written: answer.bytes,
+            }
+        }
+    }
+}
+
+// Writes the answer to the line begun with b that the piece closes. Only a line of which a part came before is put together first.
+fn put_closed(mode: Mode, b: Begun, piece: &[u8], out: &mut [u8]) -> Stepped
     requires { ⌜ Holds b × (45 ≤ length (now out)) ⌝ }
-    ensures { λ n. ⌜ Puts (answerTo (begunBytes b ++ now (piece .entry))) n (now (out .entry)) (now (out .exit)) ⌝ }
+    ensures { λ r. ⌜ AnswersLine mode (begunBytes b ++ now (piece .entry)) r (now (out .entry)) (now (out .exit)) ⌝ }
 {
     let count = b.count;
     if count == 0 {
-        let whole = frame::put_answer_of_line(piece, out);
-        return whole.bytes;
+        return answer_in(mode, piece, out);
     }
     let e = extended(b, piece);
     let n = e.count;
     let bytes = e.bytes;
-    let joined = frame::put_answer_of_line(&bytes[..n], out);
-    joined.bytes
+    answer_in(mode, &bytes[..n], out)
 }
 
 // Takes the lines of a part of the input and writes their answers over the first bytes of `out`. The line that the part leaves open stands begun.
-pub fn feed(b: Begun, input: &[u8], out: &mut [u8]) -> Fed
+pub fn feed(mode: Mode, b: Begun, input: &[u8], out: &mut [u8]) -> Fed
     requires { ⌜ Holds b × (answersRoom (length (now input)) ≤ length (now out)) ⌝ }
-    ensures { λ r. ⌜ Feeds (begunBytes b) (now (input .entry)) r (now (out .entry)) (now (out .exit)) ⌝ }
+    ensures { λ r. ⌜ Feeds mode (begunBytes b) (now (input .entry)) r (now (out .entry)) (now (out .exit)) ⌝ }
 {
+    let mut mode = mode;
     let mut begun = b;
     let mut at: usize = 0;
     let mut some = false;
@@ -74,25 +91,35 @@ pub fn feed(b: Begun, input: &[u8], out: &mut [u8]) -> Fed
         let line = super::take_line(input, &mut at, &mut some);
         if from + line.len() == at {
             begun = extended(begun, line);
-            return Fed { begun, written };
+            return Fed {
+                begun,
+                mode,
+                written,
+            };
         }
-        let n = put_closed(begun, line, &mut out[written..]);
+        let r = put_closed(mode, begun, line, &mut out[written..]);
+        let n = r.written;
+        mode = r.mode;
         written += n;
         begun = none();
     }
-    Fed { begun, written }
+    Fed {
+        begun,
+        mode,
+        written,
+    }
 }
 
 // Writes the answer to what stands begun at the end of the input, and returns its length: 0 where nothing does.
-pub fn finish(b: Begun, out: &mut [u8]) -> usize
+pub fn finish(mode: Mode, b: Begun, out: &mut [u8]) -> usize
     requires { ⌜ Holds b × (45 ≤ length (now out)) ⌝ }
-    ensures { λ n. ⌜ Puts (lastAnswer (begunBytes b)) n (now (out .entry)) (now (out .exit)) ⌝ }
+    ensures { λ n. ⌜ Puts (lastAnswer program mode (begunBytes b)) n (now (out .entry)) (now (out .exit)) ⌝ }
 {
     let held = b.count;
     if held == 0 {
         return 0;
     }
     let bytes = b.bytes;
-    let last = frame::put_answer_of_line(&bytes[..held], out);
-    last.bytes
+    let last = answer_in(mode, &bytes[..held], out);
+    last.written
 }

@@ -7,6 +7,7 @@ ghost use lib.ListN.{length};
 ghost use Rattle.turns.specs.Doing.{Moves};
 ghost use Rattle.turns.specs.Turns.{Ready, doing};
 ghost use Rattle.turns.specs.History.{Follows};
+use lines::Mode;
 use turns::Came;
 use turns::Next;
 use turns::Turn;
@@ -96,7 +97,7 @@ fn say(t: Turn) {
 fn main() {
     let mut part = part_buffer();
     let mut out = io::large_buffer();
-    let mut t = turns::start();
+    let mut t = turns::start(Mode::Bare);
     let mut turns = u64::MAX;
     while turns > 0 && turns::goes_on(t) {
         t = call_once(t, &mut part, &mut out);

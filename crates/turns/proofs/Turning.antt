@@ -10,9 +10,12 @@ use lib.Seq.{take-append-seam, drop-drop}
 use Rattle.whole.specs.Padded.{over}
 use Rattle.lines.specs.Begun.{begunBytes}
 use Rattle.lines.specs.Lines.{unfinished}
+use Rattle.lines.specs.Steps.{program}
 use Rattle.lines.specs.Stream.{answersTo, lastAnswer, kept}
 use Rattle.lines.specs.declared.Begun.{Begun}
+use Rattle.lines.specs.declared.Mode.{Mode}
 use Rattle.lines.proofs.Room.{answers-room, last-room}
+use Rattle.lines.proofs.Modes.{program-steady}
 use Rattle.lines.proofs.Beginnings.{begun-bytes, begun-holds, held-count, kept-holds}
 use Rattle.turns.specs.declared.Came.{Came}
 use Rattle.turns.specs.declared.Came.the-variants.{Bytes, Nothing, Interruption, Failure}
@@ -30,11 +33,11 @@ moves-more Nothing h g = g
 moves-more Interruption h g = g
 moves-more Failure h g = g
 
-same-doing : {x y : Next} {u v a b : List ℕ} → x ≡ y → u ≡ v → a ≡ b → _≡_ {A = Doing} record { next = x; begun = u; standing = a } record { next = y; begun = v; standing = b }
+same-doing : {x y : Next} {u v a b : List ℕ} {m : Mode} → x ≡ y → u ≡ v → a ≡ b → _≡_ {A = Doing} record { next = x; begun = u; mode = m; standing = a } record { next = y; begun = v; mode = m; standing = b }
 same-doing p q r = cc
 
-pub same-turn : {x y : Next} {b e : Begun} {f g to to′ : ℕ} → x ≡ y → b ≡ e → f ≡ g → to ≡ to′ → _≡_ {A = Turn} record { next = x; begun = b; «from» = f; to = to } record { next = y; begun = e; «from» = g; to = to′ }
-same-turn p q r s = cc
+pub same-turn : {x y : Next} {b e : Begun} {m n : Mode} {f g to to′ : ℕ} → x ≡ y → b ≡ e → m ≡ n → f ≡ g → to ≡ to′ → _≡_ {A = Turn} record { next = x; begun = b; mode = m; «from» = f; to = to } record { next = y; begun = e; mode = n; «from» = g; to = to′ }
+same-turn p q r s w = cc
 
 -- ---- after a read: what is written over the first bytes of the output stands to be written
 module _ (l out : List ℕ) where
@@ -45,27 +48,27 @@ module _ (l out : List ℕ) where
   over-length h = omega (arith, length-append l (drop (length l) out), length-drop (length l) out)
 
 module _ (t : Turn) (s out : List ℕ) (ready : Ready t (length s) out) where
-  answers-fit : (n : ℕ) → length (answersTo (begunBytes (t .begun)) (take n s)) ≤ length out
-  answers-fit n = omega (arith, answers-room (begunBytes (t .begun)) (take n s), length-take n s, held-count (t .begun) (ready .begun), ready .begun .few, ready .room)
+  answers-fit : (n : ℕ) → length (answersTo program (t .mode) (begunBytes (t .begun)) (take n s)) ≤ length out
+  answers-fit n = omega (arith, answers-room program program-steady (t .mode) (begunBytes (t .begun)) (take n s), length-take n s, held-count (t .begun) (ready .begun), ready .begun .few, ready .room)
 
-  last-fits : length (lastAnswer (begunBytes (t .begun))) ≤ length out
-  last-fits = omega (arith, last-room (begunBytes (t .begun)), ready .room)
+  last-fits : length (lastAnswer program (t .mode) (begunBytes (t .begun))) ≤ length out
+  last-fits = omega (arith, last-room program program-steady (t .mode) (begunBytes (t .begun)), ready .room)
 
   -- what is answered is what the definitions say, and can be gone on with
   pub read-ready : (c : Came) → Ready (turnAfterRead t c s) (length s) (outAfterRead t c s out)
   read-ready (Bytes n) =
       let u = begunBytes (t .begun) in
-      let same = over-length (answersTo u (take n s)) out (answers-fit n) in
+      let same = over-length (answersTo program (t .mode) u (take n s)) out (answers-fit n) in
       record { begun = kept-holds (unfinished u (take n s)); order = omega arith; within = omega (arith, same, answers-fit n); room = omega (arith, same, ready .room) }
   read-ready Nothing =
-      let same = over-length (lastAnswer (begunBytes (t .begun))) out last-fits in
+      let same = over-length (lastAnswer program (t .mode) (begunBytes (t .begun))) out last-fits in
       record { begun = begun-holds [] (omega arith); order = omega arith; within = omega (arith, same, last-fits); room = omega (arith, same, ready .room) }
   read-ready Interruption = ready
   read-ready Failure = record { begun = ready .begun; order = ready .order; within = ready .within; room = ready .room }
 
   pub read-doing : (c : Came) → doing (turnAfterRead t c s) (outAfterRead t c s out) ≡ afterRead (doing t out) c s
-  read-doing (Bytes n) = let u = begunBytes (t .begun) in same-doing refl (begun-bytes (kept (unfinished u (take n s)))) (over-first (answersTo u (take n s)) out)
-  read-doing Nothing = same-doing refl (begun-bytes []) (over-first (lastAnswer (begunBytes (t .begun))) out)
+  read-doing (Bytes n) = let u = begunBytes (t .begun) in same-doing refl (begun-bytes (kept (unfinished u (take n s)))) (over-first (answersTo program (t .mode) u (take n s)) out)
+  read-doing Nothing = same-doing refl (begun-bytes []) (over-first (lastAnswer program (t .mode) (begunBytes (t .begun))) out)
   read-doing Interruption = refl
   read-doing Failure = refl
 

@@ -4,14 +4,15 @@
 --   Follows d d′   d′ follows from d by some event
 --   History        where a run stands: what it is doing, the bytes that its reads brought, the bytes that its writes took, whether a read
 --                  found the end of the input, and whether a call failed
---   history es     where the run with the events es stands
+--   history m es   where the run with the events es stands that began in the mode m
 --   Beginning l w  l is a beginning of w
---   Reached d      some run comes to be doing d
+--   Reached m d    some run that began in the mode m comes to be doing d
 use mathlib.Core.Path.{_≡_}
 use mathlib.Core.Bool.{Bool, true, false, cond}
 use mathlib.Core.List.{List, [], _∷_, _++_}
 use Prim.Native.Nat.{ℕ}
 use lib.ListN.{take}
+use Rattle.lines.specs.declared.Mode.{Mode}
 use Rattle.turns.specs.Doing.{Doing, afterRead, afterWrite}
 use Rattle.turns.specs.declared.Came.{Came}
 use Rattle.turns.specs.declared.Came.the-variants.{Bytes, Nothing, Interruption, Failure}
@@ -96,8 +97,8 @@ pub record History : Type 0 where
   pub ended : Bool
   pub failed : Bool
 
-abbrev pub start : History
-start = record { at = record { next = Read; begun = []; standing = [] }; read = []; handed = []; ended = false; failed = false }
+abbrev pub start : Mode → History
+start m = record { at = record { next = Read; begun = []; mode = m; standing = [] }; read = []; handed = []; ended = false; failed = false }
 
 abbrev pub then : History → Event → History
 then h e =
@@ -114,13 +115,13 @@ unfoldable pub goOn : History → List Event → History
 goOn h [] = h
 goOn h (e ∷ es) = goOn (then h e) es
 
-abbrev pub history : List Event → History
-history es = goOn start es
+abbrev pub history : Mode → List Event → History
+history m es = goOn (start m) es
 
--- the program can come to be doing d
-pub record Reached (d : Doing) : Type 0 where
+-- the program that began in the mode m can come to be doing d
+pub record Reached (m : Mode) (d : Doing) : Type 0 where
   pub events : List Event
-  pub is : history events .at ≡ d
+  pub is : history m events .at ≡ d
 
 -- l is a beginning of `whole`
 pub record Beginning (l whole : List ℕ) : Type 0 where

@@ -7,6 +7,7 @@ ghost use lib.ListN.{length};
 ghost use Rattle.turns.specs.Doing.{cameBack, Moves, goesOn, afterLast};
 ghost use Rattle.turns.specs.Turns.{beginning, Ready, turnAfterRead, outAfterRead, turnAfterWrite};
 use lines::Begun;
+use lines::Mode;
 use lines::stream;
 
 // What a call of read or write brought: so many bytes moved, none, an interruption, or a failure.
@@ -29,10 +30,11 @@ pub enum Next {
     NotTaken,
 }
 
-// Between two calls: what is to be done next, the line that stands begun, and from where to where the output stands to be written.
+// Between two calls: what is to be done next, the line that stands begun, the mode, and from where to where the output stands to be written.
 pub struct Turn {
     pub next: Next,
     pub begun: Begun,
+    pub mode: Mode,
     pub from: usize,
     pub to: usize,
 }
@@ -70,12 +72,13 @@ pub fn goes_on(t: Turn) -> bool
 }
 
 // Before the first call.
-pub fn start() -> Turn
-    ensures { λ r. ⌜ r ≡ beginning ⌝ }
+pub fn start(mode: Mode) -> Turn
+    ensures { λ r. ⌜ r ≡ beginning mode ⌝ }
 {
     Turn {
         next: Next::Read,
         begun: stream::none(),
+        mode,
         from: 0,
         to: 0,
     }
@@ -93,12 +96,14 @@ fn unless_none(n: usize, write: Next, after: Next) -> Next
 
 // The turn t, stopped for the reason `next`.
 fn stopped(t: Turn, next: Next) -> Turn
-    ensures { λ r. ⌜ r ≡ record { next = next; begun = t .begun; from = t .from; to = t .to } ⌝ }
+    ensures { λ r. ⌜ r ≡ record { next = next; begun = t .begun; mode = t .mode; from = t .from; to = t .to } ⌝ }
 {
     let begun = t.begun;
+    let mode = t.mode;
     Turn {
         next,
         begun,
+        mode,
         from: t.from,
         to: t.to,
     }
@@ -110,23 +115,27 @@ pub fn after_read(t: Turn, c: Came, part: &[u8], out: &mut [u8]) -> Turn
     ensures { λ r. ⌜ (r ≡ turnAfterRead t c (now (part .entry))) × (now (out .exit) ≡ outAfterRead t c (now (part .entry)) (now (out .entry))) ⌝ }
 {
     let begun = t.begun;
+    let mode = t.mode;
     match c {
         Came::Bytes(n) => {
-            let f = stream::feed(begun, &part[..n], out);
+            let f = stream::feed(mode, begun, &part[..n], out);
             let to = f.written;
             let left = f.begun;
+            let after = f.mode;
             Turn {
                 next: unless_none(to, Next::Write, Next::Read),
                 begun: left,
+                mode: after,
                 from: 0,
                 to,
             }
         }
         Came::Nothing => {
-            let to = stream::finish(begun, out);
+            let to = stream::finish(mode, begun, out);
             Turn {
                 next: unless_none(to, Next::WriteLast, Next::Done),
                 begun: stream::none(),
+                mode,
                 from: 0,
                 to,
             }
@@ -157,6 +166,7 @@ pub fn after_write(t: Turn, c: Came) -> Turn
     ensures { λ r. ⌜ r ≡ turnAfterWrite t c ⌝ }
 {
     let begun = t.begun;
+    let mode = t.mode;
     let next = t.next;
     let to = t.to;
     match c {
@@ -166,6 +176,7 @@ pub fn after_write(t: Turn, c: Came) -> Turn
             Turn {
                 next: unless_none(to - from, next, after),
                 begun,
+                mode,
                 from,
                 to,
             }

@@ -51,7 +51,7 @@ same-length c = search needs
 returns : tie.Need-returns
 returns c =
     let f = c .before .before .before .before .feed in
-    rw (c .before .before .before .before .before .before .before .before .c .given .1) (same-turn (c .unless-none .ensures ∙ ap (λ r. cond (eqb (r .written) 0) Read Write) (f .ensures .0)) (ap (λ r. r .begun) (f .ensures .0)) refl (ap (λ r. r .written) (f .ensures .0)), f .ensures .1)
+    rw (c .before .before .before .before .before .before .before .before .c .given .1) (same-turn (c .unless-none .ensures ∙ ap (λ r. cond (eqb (r .written) 0) Read Write) (f .ensures .0)) (ap (λ r. r .begun) (f .ensures .0)) (ap (λ r. r .mode) (f .ensures .0)) refl (ap (λ r. r .written) (f .ensures .0)), f .ensures .1)
 
 same-length-2 : tie.Need-same-length-2
 same-length-2 c = search needs
@@ -59,7 +59,7 @@ same-length-2 c = search needs
 returns-2 : tie.Need-returns-2
 returns-2 c =
     let f = c .before .before .before .before .finish in
-    rw (c .before .before .before .before .before .before .enum-told .given .1) (same-turn (c .before .unless-none2 .ensures ∙ ap (λ n. cond (eqb n 0) Done WriteLast) (f .ensures .0)) (c .none .ensures) refl (f .ensures .0), f .ensures .1)
+    rw (c .before .before .before .before .before .before .enum-told .given .1) (same-turn (c .before .unless-none2 .ensures ∙ ap (λ n. cond (eqb n 0) Done WriteLast) (f .ensures .0)) (c .none .ensures) refl refl (f .ensures .0), f .ensures .1)
 
 returns-3 : tie.Need-returns-3
 returns-3 c = search needs

@@ -44,7 +44,7 @@ returns : tie.Need-returns
 returns c =
     let t = c .before .before .before .before .before .before .before .args .t in
     let n = c .before .before .before .before .c .given .0 .0 in
-    rw (c .before .before .before .before .c .given .1) (same-turn (c .unless-none .ensures ∙ ap (λ x. cond (eqb (t .to - (t .from + n)) 0) x (t .next)) (c .before .after-last .ensures)) refl refl refl)
+    rw (c .before .before .before .before .c .given .1) (same-turn (c .unless-none .ensures ∙ ap (λ x. cond (eqb (t .to - (t .from + n)) 0) x (t .next)) (c .before .after-last .ensures)) refl refl refl refl)
 
 returns-2 : tie.Need-returns-2
 returns-2 c = rw (c .before .enum-told .given .1) (c .stopped .ensures)

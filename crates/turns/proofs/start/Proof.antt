@@ -9,7 +9,7 @@ none-requires : tie.Need-none-requires
 none-requires c κs = search needs
 
 returns : tie.Need-returns
-returns c = ap (λ b. record { next = Read; begun = b; «from» = 0; to = 0 }) (c .none .ensures)
+returns c = ap (λ b. record { next = Read; begun = b; mode = c .before .args .mode; «from» = 0; to = 0 }) (c .none .ensures)
 
 pub start-spec : {M : Type 1} → statement M
 start-spec = tie.close (tie.spec none-requires returns)

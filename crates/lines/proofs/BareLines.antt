@@ -1,0 +1,71 @@
+-- Bare lines as a step. A line of more than 282 bytes is refused. A refusal has seven bytes, any answer at most 45, and a line with another answer than a refusal has at least 74 bytes, so an answer has at most seven bytes for each byte of its line and its 0a. As nothing is kept, the answers are those of the lines one by one.
+use mathlib.Core.Path.{_≡_, refl, sym, _∙_, ap}
+use mathlib.Core.Bool.{Bool, true, false, _&&_}
+use mathlib.Core.List.{List, [], _∷_, _++_, flatMap}
+use Prim.Native.Nat.{ℕ, _+_, _*_, _≤_, _<_}
+use native.Mathlib.Decide.{ℕ-discrete}
+use native.Mathlib.Omega.{arith}
+use lib.ListN.{length, length-append}
+use borrow.Author.Tests.{ne-eqb, lt-leb}
+use Rattle.outline.specs.Refusal.{firstThatApplies}
+use Rattle.verdict.specs.Answer.{answerUnless}
+use Rattle.verdict.specs.declared.Answer.{Answer}
+use Rattle.verdict.specs.declared.Answer.the-variants.{Refused}
+use Rattle.hex.specs.Hex.{hex}
+use Rattle.moveline.specs.MoveFrame.{moveFrame}
+use Rattle.frame.specs.AnswerFrame.{answerFrame, answerLine}
+use Rattle.moveline.specs.Reading.{refusalOfLine, moveOfLine}
+use Rattle.frame.specs.AnswerOfLine.{answerOfLine}
+use Rattle.hex.proofs.HexText.{hex-length}
+use Rattle.moveline.proofs.FrameMove.{moveFrame-length}
+use Rattle.moveline.proofs.RoundTrip.{written-read}
+use Rattle.frame.proofs.AnswerBytes.{length-answer}
+use Rattle.whole.specs.Along.{along}
+use Rattle.lines.specs.Output.{answerTo}
+use Rattle.lines.specs.Steps.{answers, bare, Steady}
+
+-- ---- a line of more than 282 bytes is refused
+and-never : (s t : Bool) → (s && (t && false)) ≡ false
+and-never true true = refl
+and-never true false = refl
+and-never false t = refl
+
+pub long-refused : (l : List ℕ) → 282 < length l → answerOfLine l ≡ Refused 2
+unfolding answerOfLine refusalOfLine firstThatApplies answerUnless
+long-refused l h = simp (lt-leb (length l) 282 h, and-never)
+
+long-alike : (l m : List ℕ) → 289 ≤ length l → 289 ≤ length m → answerTo l ≡ answerTo m
+long-alike l m h k = ap answerLine (long-refused l (omega arith) ∙ sym (long-refused m (omega arith)))
+
+-- ---- how long an answer is
+answer-length : (r : Answer) → length (answerLine r) ≡ 2 * length (answerFrame r) + 1
+unfolding answerLine
+answer-length r = length-append (hex (answerFrame r)) (10 ∷ []) ∙ ap (λ n. n + 1) (hex-length (answerFrame r))
+
+refused-length : (n : ℕ) → length (answerLine (Refused n)) ≡ 7
+unfolding answerFrame flatMap
+refused-length n = answer-length (Refused n)
+
+refused-answer : (l : List ℕ) → ¬ (refusalOfLine l ≡ 0) → answerOfLine l ≡ Refused (refusalOfLine l)
+unfolding answerOfLine answerUnless
+refused-answer l n = rw (ne-eqb (refusalOfLine l) 0 n)
+
+pub answer-room : (l : List ℕ) → length (answerTo l) ≤ 7 * (length l + 1)
+answer-room l = go (ℕ-discrete (refusalOfLine l) 0)
+  where
+    go : Dec (refusalOfLine l ≡ 0) → length (answerTo l) ≤ 7 * (length l + 1)
+    go (yes e) = omega (arith, ap length (written-read l e), hex-length (moveFrame (moveOfLine l)), moveFrame-length (moveOfLine l), answer-length (answerOfLine l), length-answer (answerOfLine l))
+    go (no n) = omega (arith, ap (λ r. length (answerLine r)) (refused-answer l n), refused-length (refusalOfLine l))
+
+pub answer-most : (l : List ℕ) → length (answerTo l) ≤ 45
+answer-most l = omega (arith, answer-length (answerOfLine l), length-answer (answerOfLine l))
+
+-- ---- so the step is steady
+pub bare-steady : Steady bare
+bare-steady = record { long-says = λ s. long-alike; long-next = λ s l m h k. refl; few = λ s. answer-room; most = λ s. answer-most }
+
+-- ---- the answers are those of the lines one by one
+pub answers-bare : (ls : List (List ℕ)) → answers bare tt ls ≡ flatMap (λ l. answerTo l) ls
+unfolding answers along flatMap
+answers-bare [] = refl
+answers-bare (l ∷ ls) = ap (λ t. answerTo l ++ t) (answers-bare ls)
