@@ -1,0 +1,4 @@
+pub mod Reading
+pub mod Ordering
+pub mod Stepping
+pub mod Determined
