@@ -15,6 +15,8 @@ use Rattle.moves.specs.Reading.{readingUnless}
 use Rattle.moves.proofs.Listed.{reading-some, reading-refusal}
 use Rattle.verdict.specs.Answer.{answerUnless}
 use Rattle.verdict.proofs.Answering.{reading-answer}
+use Rattle.frame.specs.declared.Written.{Written}
+use Rattle.log.specs.declared.Step.{Step}
 use Rattle.log.specs.LogLine.{reasonsOfLog, refusalOfLog, numberOf, moveOf, entryUnless, entryOf}
 use Rattle.log.specs.Order.{inOrder, lostBefore}
 use Rattle.log.specs.Steps.{refusalAt, answerAt, keptAfter, lostAt, placedEntry}
@@ -22,6 +24,10 @@ use Rattle.log.specs.declared.Kept.{Kept}
 use Rattle.log.specs.declared.Kept.the-variants.{Number}
 use Rattle.log.proofs.Reading.{entry-read}
 use Rattle.log.proofs.Ordering.{placed-refused, placed-out, placed-in}
+
+-- ---- a step by its parts
+pub same-step : {k k′ : Kept} {n n′ : ℕ} {w w′ : Written} → w ≡ w′ → k ≡ k′ → n ≡ n′ → _≡_ {A = Step} record { kept = k; lost = n; written = w } record { kept = k′; lost = n′; written = w′ }
+same-step p q r = cc
 
 -- ---- the refusal of a step
 module _ (kept : Kept) (l : List ℕ) where
