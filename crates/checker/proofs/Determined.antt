@@ -6,10 +6,14 @@ use denote.Ref.{now}
 use Rattle.whole.specs.Determined.{Determined}
 use Rattle.whole.proofs.Determination.{determined, both}
 use Rattle.frame.specs.declared.Written.{Written}
+use Rattle.log.specs.declared.Step.{Step}
+use Rattle.log.proofs.Stepping.{same-step}
 use Rattle.checker.proofs.answer_line.Reads as answer-line
 use Rattle.checker.proofs.answer_lists.Reads as answer-lists
 use Rattle.checker.proofs.write_move.Reads as write-move
 use Rattle.checker.proofs.read_line.Reads as read-line
+use Rattle.checker.proofs.log_step.Reads as log-step
+use Rattle.checker.proofs.read_log.Reads as read-log
 
 pub answer-line-determined : (κs : Lfts 2) → Determined {Y = Written × List ℕ} (answer-line.Learnt κs) (λ r e. (r, now (e .1 .0)))
 answer-line-determined κs = determined (λ a r e p. both (p .0) (p .1))
@@ -22,3 +26,9 @@ write-move-determined κs = determined (λ a r e p. both (p .0) (p .1))
 
 pub read-line-determined : (κs : Lfts 1) → Determined (read-line.Learnt κs) (λ r e. r)
 read-line-determined κs = determined (λ a r e p. p)
+
+pub log-step-determined : (κs : Lfts 2) → Determined {Y = Step × List ℕ} (log-step.Learnt κs) (λ r e. (r, now (e .1 .1 .0)))
+log-step-determined κs = determined (λ a r e p. both (same-step (p .0 .0) (p .1) (p .2)) (p .0 .1))
+
+pub read-log-determined : (κs : Lfts 1) → Determined (read-log.Learnt κs) (λ r e. r)
+read-log-determined κs = determined (λ a r e p. p)

@@ -22,7 +22,9 @@ use Rattle.moveline.specs.MoveFrame.{moveFrame, moveLine}
 use Rattle.frame.specs.AnswerFrame.{answerLine}
 use Rattle.frame.specs.Said.{wrote, refusalIn}
 use Rattle.moveline.proofs.FrameMove.{moveFrame-length}
-use Rattle.checker.specs.Entries.{spoken, spokenOut, writtenMove, writtenMoveOut}
+use Rattle.log.specs.Steps.{keptAfter, lostAt}
+use Rattle.log.specs.declared.Kept.{Kept}
+use Rattle.checker.specs.Entries.{spoken, spokenOut, writtenMove, writtenMoveOut, keptIn, lostIn}
 
 -- ---- an answer
 module _ (r : Answer) (out : List ℕ) where
@@ -33,6 +35,16 @@ module _ (r : Answer) (out : List ℕ) where
   pub spoken-wide : 45 ≤ length out → (wrote (refusalIn r) (length (answerLine r)) ≡ spoken r (length out)) × (over (answerLine r) out ≡ spokenOut r out)
   unfolding spoken spokenOut
   spoken-wide h = let t = le-ltb (length out) 45 h in (sym (rw t), sym (rw t))
+
+-- ---- a step along a log
+module _ (kept : Kept) (l : List ℕ) (room : ℕ) where
+  pub kept-narrow : room < 45 → (kept ≡ keptIn kept l room) × (0 ≡ lostIn kept l room)
+  unfolding keptIn lostIn
+  kept-narrow h = let t = lt-ltb room 45 h in (sym (rw t), sym (rw t))
+
+  pub kept-wide : 45 ≤ room → (keptAfter kept l ≡ keptIn kept l room) × (lostAt kept l ≡ lostIn kept l room)
+  unfolding keptIn lostIn
+  kept-wide h = let t = le-ltb room 45 h in (sym (rw t), sym (rw t))
 
 -- ---- a move handed in as lists
 module _ (xs ys : List ℤ) (va vb : Corner) (T : ℤ) where

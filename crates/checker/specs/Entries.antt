@@ -3,8 +3,10 @@
 --   spokenOut r out                      the lent bytes afterwards: the answer line over the first of them, the others as they were
 --   writtenMove .. room                  for a move line: refusal 1 under 283, else the lists' refusal, else the line's length
 --   writtenMoveOut .. out                the lent bytes afterwards
+--   keptIn kept l room, lostIn kept l room    of a step along a log: what is kept afterwards, and how many lines were lost; a step refused with 1 keeps and loses nothing
 --   Speaks r w out out′                  a call that returns w and leaves out′ of the lent bytes out has done the former for the answer r
 --   WritesMove .. w out out′             it has done the latter
+--   StepsAlong kept l s out out′         a call that returns s and leaves out′ has taken the step from what is kept with the log line l
 use mathlib.Core.Path.{_≡_}
 use mathlib.Core.Bool.{cond}
 use mathlib.Core.List.{List}
@@ -21,6 +23,9 @@ use Rattle.moveline.specs.MoveFrame.{moveLine}
 use Rattle.frame.specs.AnswerFrame.{answerLine}
 use Rattle.frame.specs.Said.{wrote, refusalIn}
 use Rattle.frame.specs.declared.Written.{Written}
+use Rattle.log.specs.Steps.{answerAt, keptAfter, lostAt}
+use Rattle.log.specs.declared.Kept.{Kept}
+use Rattle.log.specs.declared.Step.{Step}
 
 unfoldable pub spoken : Answer → ℕ → Written
 spoken r room = cond (ltb room 45) (wrote 1 0) (wrote (refusalIn r) (length (answerLine r)))
@@ -41,3 +46,12 @@ Speaks r w out out′ = (w ≡ spoken r (length out)) × (out′ ≡ spokenOut r
 
 abbrev pub WritesMove : List ℤ → List ℤ → Corner → Corner → ℤ → Written → List ℕ → List ℕ → Type 0
 WritesMove xs ys va vb T w out out′ = (w ≡ writtenMove xs ys va vb T (length out)) × (out′ ≡ writtenMoveOut xs ys va vb T out)
+
+unfoldable pub keptIn : Kept → List ℕ → ℕ → Kept
+keptIn kept l room = cond (ltb room 45) kept (keptAfter kept l)
+
+unfoldable pub lostIn : Kept → List ℕ → ℕ → ℕ
+lostIn kept l room = cond (ltb room 45) 0 (lostAt kept l)
+
+abbrev pub StepsAlong : Kept → List ℕ → Step → List ℕ → List ℕ → Type 0
+StepsAlong kept l s out out′ = Speaks (answerAt kept l) (s .written) out out′ × (s .kept ≡ keptIn kept l (length out)) × (s .lost ≡ lostIn kept l (length out))

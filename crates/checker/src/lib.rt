@@ -4,8 +4,12 @@ ghost use Rattle.verdict.specs.Answer.{answerOfLists};
 ghost use Rattle.moveline.specs.Reading.{readingOfLine};
 ghost use Rattle.frame.specs.AnswerOfLine.{answerOfLine};
 ghost use Rattle.frame.specs.Said.{wrote};
-ghost use Rattle.checker.specs.Entries.{Speaks, WritesMove};
+ghost use Rattle.log.specs.LogLine.{entryOf};
+ghost use Rattle.checker.specs.Entries.{Speaks, WritesMove, StepsAlong};
 use frame::Written;
+use log::Entry;
+use log::Kept;
+use log::Step;
 use moves::Reading;
 use plane::Corner;
 
@@ -87,4 +91,26 @@ pub fn read_line(line: &[u8]) -> Reading
     ensures { λ r. ⌜ r ≡ readingOfLine (now (line .entry)) ⌝ }
 {
     moveline::reader::read(line)
+}
+
+// One step along a log: the answer to a log line, which stands without its 0a, into `out`. Refusal 1 (fewer than 45 bytes lent) writes nothing;
+// 2 to 10 write the refusal line in the first 7 bytes. A refused line leaves the kept number and loses none.
+pub fn log_step(kept: Kept, line: &[u8], out: &mut [u8]) -> Step
+    ensures { λ s. ⌜ StepsAlong kept (now (line .entry)) s (now (out .entry)) (now (out .exit)) ⌝ }
+{
+    if out.len() < ANSWER_ROOM {
+        return Step {
+            kept,
+            lost: 0,
+            written: no_room(),
+        };
+    }
+    log::put_step(kept, line, out)
+}
+
+// The number and the move of a log line, which stands without its 0a, or its refusal, 2 to 9, with zeros. The order is not tested.
+pub fn read_log(line: &[u8]) -> Entry
+    ensures { λ r. ⌜ r ≡ entryOf (now (line .entry)) ⌝ }
+{
+    log::reader::read(line)
 }

@@ -25,7 +25,7 @@ use Rattle.lines.specs.Output.{answerTo}
 use Rattle.lines.specs.Steps.{answers, bare, Steady}
 
 -- ---- a line of more than 282 bytes is refused
-and-never : (s t : Bool) → (s && (t && false)) ≡ false
+pub and-never : (s t : Bool) → (s && (t && false)) ≡ false
 and-never true true = refl
 and-never true false = refl
 and-never false t = refl
@@ -38,11 +38,11 @@ long-alike : (l m : List ℕ) → 289 ≤ length l → 289 ≤ length m → answ
 long-alike l m h k = ap answerLine (long-refused l (omega arith) ∙ sym (long-refused m (omega arith)))
 
 -- ---- how long an answer is
-answer-length : (r : Answer) → length (answerLine r) ≡ 2 * length (answerFrame r) + 1
+pub answer-length : (r : Answer) → length (answerLine r) ≡ 2 * length (answerFrame r) + 1
 unfolding answerLine
 answer-length r = length-append (hex (answerFrame r)) (10 ∷ []) ∙ ap (λ n. n + 1) (hex-length (answerFrame r))
 
-refused-length : (n : ℕ) → length (answerLine (Refused n)) ≡ 7
+pub refused-length : (n : ℕ) → length (answerLine (Refused n)) ≡ 7
 unfolding answerFrame flatMap
 refused-length n = answer-length (Refused n)
 
@@ -57,12 +57,12 @@ answer-room l = go (ℕ-discrete (refusalOfLine l) 0)
     go (yes e) = omega (arith, ap length (written-read l e), hex-length (moveFrame (moveOfLine l)), moveFrame-length (moveOfLine l), answer-length (answerOfLine l), length-answer (answerOfLine l))
     go (no n) = omega (arith, ap (λ r. length (answerLine r)) (refused-answer l n), refused-length (refusalOfLine l))
 
-pub answer-most : (l : List ℕ) → length (answerTo l) ≤ 45
-answer-most l = omega (arith, answer-length (answerOfLine l), length-answer (answerOfLine l))
+pub length-line : (r : Answer) → length (answerLine r) ≤ 45
+length-line r = omega (arith, answer-length r, length-answer r)
 
 -- ---- so the step is steady
 pub bare-steady : Steady bare
-bare-steady = record { long-says = λ s. long-alike; long-next = λ s l m h k. refl; few = λ s. answer-room; most = λ s. answer-most }
+bare-steady = record { long-says = λ s. long-alike; long-next = λ s l m h k. refl; few = λ s. answer-room; most = λ s l. length-line (answerOfLine l) }
 
 -- ---- the answers are those of the lines one by one
 pub answers-bare : (ls : List (List ℕ)) → answers bare tt ls ≡ flatMap (λ l. answerTo l) ls

@@ -3,6 +3,7 @@
 --   answers p s ls         the answer lines to the lines ls, in order, from the state s on
 --   outputOf p s input     the answer lines to the lines of an input
 --   bare                   bare lines: each is answered by itself, and nothing is kept
+--   logged                 log lines: the number of the last accepted line is kept
 --   program                what the program does, by its mode
 --   Steady p               what an input that comes in parts needs of a step: a line of 289 bytes and more is answered alike whatever it holds, and an answer is short
 use mathlib.Core.Path.{_≡_}
@@ -10,10 +11,12 @@ use mathlib.Core.List.{List, flatMap}
 use Prim.Native.Nat.{ℕ, _+_, _*_, _≤_}
 use lib.ListN.{length}
 use Rattle.whole.specs.Along.{along}
+use Rattle.log.specs.Steps.{keptAfter}
+use Rattle.log.specs.declared.Kept.{Kept}
 use Rattle.lines.specs.Lines.{linesOf}
-use Rattle.lines.specs.Output.{answerTo}
+use Rattle.lines.specs.Output.{answerTo, logAnswerTo}
 use Rattle.lines.specs.declared.Mode.{Mode}
-use Rattle.lines.specs.declared.Mode.the-variants.{Bare}
+use Rattle.lines.specs.declared.Mode.the-variants.{Bare, Log}
 
 pub record Step (S : Type 0) : Type 0 where
   pub says : S → List ℕ → List ℕ
@@ -29,12 +32,17 @@ outputOf p s input = answers p s (linesOf input)
 abbrev pub bare : Step (Unit {0})
 bare = record { says = λ s l. answerTo l; next = λ s l. tt }
 
+abbrev pub logged : Step Kept
+logged = record { says = logAnswerTo; next = keptAfter }
+
 -- ---- by the mode
 abbrev pub saysIn : Mode → List ℕ → List ℕ
 saysIn Bare l = answerTo l
+saysIn (Log kept) l = logAnswerTo kept l
 
 abbrev pub nextIn : Mode → List ℕ → Mode
 nextIn Bare l = Bare
+nextIn (Log kept) l = Log (keptAfter kept l)
 
 abbrev pub program : Step Mode
 program = record { says = saysIn; next = nextIn }

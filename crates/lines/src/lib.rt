@@ -6,9 +6,12 @@ ghost use Rattle.lines.specs.Taking.{lineAt, Takes};
 
 pub mod stream; // the answers to an input that comes in parts
 
-// How lines are answered, and what is kept from one to the next: bare lines, each by itself.
+use log::Kept;
+
+// How lines are answered, and what is kept from one to the next: bare lines, each by itself; log lines, with the number of the last accepted one.
 pub enum Mode {
     Bare,
+    Log(Kept),
 }
 
 // A line begun: its first 289 bytes, unused ones zero, and their count. A line of more than 288 is refused whatever it holds.

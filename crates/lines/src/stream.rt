@@ -58,6 +58,15 @@ fn answer_in(mode: Mode, line: &[u8], out: &mut [u8]) -> Stepped
                 written: answer.bytes,
             }
         }
+        Mode::Log(kept) => {
+            let step = log::put_step(kept, line, out);
+            let after = step.kept;
+            let answer = step.written;
+            Stepped {
+                mode: Mode::Log(after),
+                written: answer.bytes,
+            }
+        }
     }
 }
 

@@ -1,4 +1,4 @@
-// The program: lines on standard input, the answer line of each on standard output. `main` reads, asks what to do next, and writes;
+// The program: lines on standard input, the answer line of each on standard output; with the argument `log`, the lines of a log. `run` reads, asks what to do next, and writes;
 // what is written for what was read, and when it stops, is decided in the crate `turns`.
 ghost use mathlib.Core.Path.{_≡_};
 ghost use Prim.Native.Nat.{_-_, _≤_};
@@ -8,6 +8,7 @@ ghost use Rattle.turns.specs.Doing.{Moves};
 ghost use Rattle.turns.specs.Turns.{Ready, doing};
 ghost use Rattle.turns.specs.History.{Follows};
 use lines::Mode;
+use turns::Asked;
 use turns::Came;
 use turns::Next;
 use turns::Turn;
@@ -94,14 +95,35 @@ fn say(t: Turn) {
     }
 }
 
-fn main() {
+// Answers the lines of standard input in a mode.
+fn run(mode: Mode) {
     let mut part = part_buffer();
     let mut out = io::large_buffer();
-    let mut t = turns::start(Mode::Bare);
+    let mut t = turns::start(mode);
     let mut turns = u64::MAX;
     while turns > 0 && turns::goes_on(t) {
         t = call_once(t, &mut part, &mut out);
         turns -= 1;
     }
     say(t);
+}
+
+// What the arguments ask for. Four bytes tell `log` from any other word: a longer one comes as none.
+fn asked() -> Asked {
+    let mut word = [0u8; 4];
+    let n = os::arg(1, &mut word);
+    turns::arguments::asked(os::arg_count(), &word[..n])
+}
+
+fn main() {
+    let what = asked();
+    match what {
+        Asked::Answers(mode) => run(mode),
+        Asked::Usage => {
+            io::write_all(
+                2,
+                b"usage: stonefruitle < MOVES > ANSWERS\n       stonefruitle log < LOG > ANSWERS\n",
+            );
+        }
+    }
 }

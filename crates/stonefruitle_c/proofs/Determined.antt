@@ -1,5 +1,6 @@
 -- The contracts of what is linked, as the source has them, are determined: two outcomes that one allows for the same input show the same number, the same length and the same lent bytes.
-use mathlib.Core.Path.{ap}
+use mathlib.Core.Path.{_≡_, ap}
+use mathlib.Core.Bool.{Bool}
 use mathlib.Core.List.{List}
 use Prim.Native.Nat.{ℕ}
 use lib.IntN.{ℤ}
@@ -14,6 +15,8 @@ use Rattle.stonefruitle_c.proofs.stonefruitle_write_move.Reads as write
 use Rattle.stonefruitle_c.proofs.stonefruitle_read_line.Reads as read-line
 use Rattle.stonefruitle_c.proofs.stonefruitle_read_move.Reads as read-move
 use Rattle.stonefruitle_c.proofs.stonefruitle_test_outline.Reads as test-outline
+use Rattle.stonefruitle_c.proofs.stonefruitle_log_step.Reads as log-step
+use Rattle.stonefruitle_c.proofs.stonefruitle_read_log.Reads as read-log
 
 pub answer-line-determined : (κs : Lfts 3) → Determined {Y = ℕ × ℕ × List ℕ} (answer-line.Learnt κs) (λ r e. (r, now (e .1 .1 .0), now (e .1 .0)))
 answer-line-determined κs = determined (λ a r e p. all-three (ap (λ (w : Written). w .refusal) (p .0)) (ap (λ (w : Written). w .bytes) (p .0)) (p .1))
@@ -32,3 +35,13 @@ read-move-determined κs = determined (λ a r e p. both (p .0) (p .1))
 
 pub test-outline-determined : (κs : Lfts 1) → Determined (test-outline.Learnt κs) (λ r e. r)
 test-outline-determined κs = determined (λ a r e p. p)
+
+all-six : {U X Y Z S T : Type 0} {u u′ : U} {x x′ : X} {y y′ : Y} {z z′ : Z} {s s′ : S} {t t′ : T} → u ≡ u′ → x ≡ x′ → y ≡ y′ → z ≡ z′ → s ≡ s′ → t ≡ t′ → _≡_ {A = U × X × Y × Z × S × T} (u, x, y, z, s, t) (u′, x′, y′, z′, s′, t′)
+all-six p q r a b c = cc
+
+pub log-step-determined : (κs : Lfts 6) →
+    Determined {Y = ℕ × List ℕ × Bool × ℕ × ℕ × ℕ} (log-step.Learnt κs) (λ r e. (r, now (e .1 .1 .1 .0), now (e .1 .1 .1 .1 .0), now (e .1 .1 .1 .1 .1 .0), now (e .1 .1 .1 .1 .1 .1 .0), now (e .1 .1 .1 .1 .1 .1 .1 .0)))
+log-step-determined κs = determined (λ a r e p. all-six (ap (λ (w : Written). w .refusal) (p .0 .0)) (p .0 .1) (p .1) (p .2) (p .3) (ap (λ (w : Written). w .bytes) (p .0 .0)))
+
+pub read-log-determined : (κs : Lfts 3) → Determined {Y = ℕ × ℕ × List ℤ} (read-log.Learnt κs) (λ r e. (r, now (e .1 .0), now (e .1 .1 .0)))
+read-log-determined κs = determined (λ a r e p. all-three (p .0) (p .1) (p .2))

@@ -12,10 +12,16 @@ use Rattle.plane.specs.Edges.{corner}
 use Rattle.plane.specs.declared.Corner.{Corner}
 use Rattle.outline.specs.Held.{Kept}
 use Rattle.outline.proofs.Testing.{held-kept}
+use Rattle.moves.specs.Move.{Move}
+use Rattle.moves.specs.Refusal.{refusal}
+use Rattle.moves.specs.Reading.{readingUnless}
 use Rattle.moves.specs.declared.HeldMove.{HeldMove}
 use Rattle.moveline.specs.Reading.{refusalOfLine, moveOfLine, readingOfLine}
 use Rattle.moves.proofs.Listed.{held-accepted, reading-none, reading-some}
 use Rattle.moveline.proofs.RoundTrip.{accepted}
+use Rattle.log.specs.LogLine.{refusalOfLog, numberOf, moveOf, entryUnless, entryOf}
+use Rattle.log.proofs.Reading.{entry-refused}
+use Rattle.log.proofs.Stepping.{accepted-move}
 use Rattle.stonefruitle_c.specs.Numbers.{coordinates, heading, numbers}
 
 -- ---- one outline's coordinates
@@ -62,14 +68,31 @@ module _ (m : HeldMove) (p : Kept (m .a)) (q : Kept (m .b)) where
       ∙ ap (λ n. getD (coordinates (m .a .corners) ++ coordinates (m .b .corners)) (n + k) (pos 0)) (sym a-length)
       ∙ getD-append-add (coordinates (m .a .corners)) (coordinates (m .b .corners)) k (pos 0)
 
+-- ---- the move beside a refusal r
+module _ (r : ℕ) (m : Move) where
+  pub reading-kept : (r ≡ 0 → refusal m ≡ 0) → Kept (readingUnless r m .held .a) × Kept (readingUnless r m .held .b)
+  reading-kept ok = go (ℕ-discrete r 0)
+    where
+      go : Dec (r ≡ 0) → Kept (readingUnless r m .held .a) × Kept (readingUnless r m .held .b)
+      go (yes e) = let f = held-accepted m (ok e) .0 in rw (reading-none r m e) (f .held-a .kept, f .held-b .kept)
+      go (no n) = rw (reading-some r m n) (held-kept [] (omega arith), held-kept [] (omega arith))
+
+  reading-zeros : r ≢ 0 → numbers (readingUnless r m .held) ≡ replicate 71 (pos 0)
+  unfolding coordinates
+  reading-zeros n = ap (λ x. numbers (x .held)) (reading-some r m n)
+
 -- ---- the move of a line
 pub line-kept : (l : List ℕ) → Kept (readingOfLine l .held .a) × Kept (readingOfLine l .held .b)
-line-kept l = go (ℕ-discrete (refusalOfLine l) 0)
-  where
-    go : Dec (refusalOfLine l ≡ 0) → Kept (readingOfLine l .held .a) × Kept (readingOfLine l .held .b)
-    go (yes e) = let f = held-accepted (moveOfLine l) (accepted l e) .0 in rw (reading-none (refusalOfLine l) (moveOfLine l) e) (f .held-a .kept, f .held-b .kept)
-    go (no n) = rw (reading-some (refusalOfLine l) (moveOfLine l) n) (held-kept [] (omega arith), held-kept [] (omega arith))
+line-kept l = reading-kept (refusalOfLine l) (moveOfLine l) (accepted l)
 
 pub refused-zeros : (l : List ℕ) → refusalOfLine l ≢ 0 → numbers (readingOfLine l .held) ≡ replicate 71 (pos 0)
-unfolding coordinates
-refused-zeros l n = ap (λ r. numbers (r .held)) (reading-some (refusalOfLine l) (moveOfLine l) n)
+refused-zeros l n = reading-zeros (refusalOfLine l) (moveOfLine l) n
+
+-- ---- the number and the move of a log line
+pub log-kept : (l : List ℕ) → Kept (entryOf l .reading .held .a) × Kept (entryOf l .reading .held .b)
+unfolding entryUnless
+log-kept l = reading-kept (refusalOfLog l) (moveOf l) (accepted-move l)
+
+pub refused-log-zeros : (l : List ℕ) → refusalOfLog l ≢ 0 → (entryOf l .number ≡ 0) × (numbers (entryOf l .reading .held) ≡ replicate 71 (pos 0))
+unfolding entryUnless
+refused-log-zeros l n = (ap (λ e. e .number) (entry-refused (refusalOfLog l) (numberOf l) (moveOf l) n), reading-zeros (refusalOfLog l) (moveOf l) n)

@@ -6,10 +6,13 @@ ghost use Rattle.outline.specs.Refusal.{refusalOfOutline};
 ghost use Rattle.verdict.specs.Answer.{answerOfLists};
 ghost use Rattle.frame.specs.AnswerOfLine.{answerOfLine};
 ghost use Rattle.moveline.specs.Reading.{refusalOfLine, readingOfLine};
+ghost use Rattle.log.specs.LogLine.{refusalOfLog, entryOf};
 ghost use Rattle.stonefruitle_c.specs.Numbers.{numbers};
+ghost use Rattle.stonefruitle_c.specs.Kept.{keptOf, StepsOut};
 ghost use Rattle.frame.specs.Said.{wrote};
 ghost use Rattle.checker.specs.Entries.{Speaks, WritesMove};
 
+mod kept; // the number that a log keeps
 mod numbers; // a move as a list of numbers
 
 use plane::Corner;
@@ -95,4 +98,42 @@ pub extern "C" fn stonefruitle_test_outline(coordinates: &[i64]) -> u8
 {
     let t = outline::test(coordinates);
     t.refusal
+}
+
+// One step along a log: the answer to a log line, which stands without its 0a, into `out`, and its length into `written`; what is kept afterwards
+// into `some_after` and `number_after`, and how many lines were lost before the line into `lost`.
+#[no_mangle]
+pub extern "C" fn stonefruitle_log_step(
+    some: bool,
+    number: u16,
+    line: &[u8],
+    out: &mut [u8],
+    some_after: &mut bool,
+    number_after: &mut u16,
+    lost: &mut u16,
+    written: &mut usize,
+) -> u8
+    ensures { λ r. ⌜ StepsOut (keptOf some number) (now (line .entry)) r (now (written .exit)) (now («some_after» .exit)) (now («number_after» .exit)) (now (lost .exit)) (now (out .entry)) (now (out .exit)) ⌝ }
+{
+    let s = checker::log_step(kept::kept_of(some, number), line, out);
+    let after = s.kept;
+    let w = s.written;
+    *some_after = kept::is_kept(after);
+    *number_after = kept::number_kept(after);
+    *lost = s.lost;
+    *written = w.bytes;
+    w.refusal
+}
+
+// The number and the move of a log line, which stands without its 0a, the move as the 71 numbers of `stonefruitle_read_move`; all zeros where the
+// line is refused: 2 to 9, the first that applies. The order is not tested.
+#[no_mangle]
+pub extern "C" fn stonefruitle_read_log(line: &[u8], number: &mut u16, into: &mut [i64; 71]) -> u8
+    ensures { λ r. ⌜ (r ≡ refusalOfLog (now (line .entry))) × (now (number .exit) ≡ entryOf (now (line .entry)) .number) × (now (into .exit) ≡ numbers (entryOf (now (line .entry)) .reading .held)) ⌝ }
+{
+    let e = checker::read_log(line);
+    let r = e.reading;
+    *number = e.number;
+    *into = numbers::numbers_of(r.held);
+    r.refusal
 }

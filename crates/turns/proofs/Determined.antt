@@ -6,11 +6,15 @@ use denote.Ref.{now}
 use Rattle.whole.specs.Determined.{Determined}
 use Rattle.whole.proofs.Determination.{determined, both}
 use Rattle.turns.specs.declared.Turn.{Turn}
+use Rattle.turns.proofs.arguments.asked.Reads as asked
 use Rattle.turns.proofs.came_back.Reads as came-back
 use Rattle.turns.proofs.goes_on.Reads as goes-on
 use Rattle.turns.proofs.start.Reads as start
 use Rattle.turns.proofs.after_read.Reads as after-read
 use Rattle.turns.proofs.after_write.Reads as after-write
+
+pub asked-determined : (κs : Lfts 1) → Determined (asked.Learnt κs) (λ r e. r)
+asked-determined κs = determined (λ a r e p. p)
 
 pub came-back-determined : (κs : Lfts 0) → Determined (came-back.Learnt κs) (λ r e. r)
 came-back-determined κs = determined (λ a r e p. p .0)

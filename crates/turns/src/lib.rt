@@ -6,9 +6,18 @@ ghost use lib.Dec.{eqb};
 ghost use lib.ListN.{length};
 ghost use Rattle.turns.specs.Doing.{cameBack, Moves, goesOn, afterLast};
 ghost use Rattle.turns.specs.Turns.{beginning, Ready, turnAfterRead, outAfterRead, turnAfterWrite};
+
+pub mod arguments; // what the program is asked for
+
 use lines::Begun;
 use lines::Mode;
 use lines::stream;
+
+// What the program is asked for: the answers to lines in a mode, or to say how it is used.
+pub enum Asked {
+    Answers(Mode),
+    Usage,
+}
 
 // What a call of read or write brought: so many bytes moved, none, an interruption, or a failure.
 pub enum Came {

@@ -8,13 +8,12 @@ use Rattle.turns.specs.Turns.{Ready, doing}
 use Rattle.turns.specs.History.{Reached}
 use Rattle.turns.proofs.Prefix.{reached-start, reached-next}
 use Rattle.turns.proofs.Turning.{ready-same}
-use Rattle.lines.specs.declared.Mode.the-variants.{Bare}
 use Rattle.lines.proofs.Beginnings.{begun-holds}
-use Rattle.stonefruitle.proofs.main.Statement.{statement}
-use Rattle.stonefruitle.proofs.main.Tie as tie
+use Rattle.stonefruitle.proofs.run.Statement.{statement}
+use Rattle.stonefruitle.proofs.run.Tie as tie
 
 abbrev Inv-loop : tie.InvT-loop
-Inv-loop part₀ out₀ t₀ turns₀ part out t turns = (length part ≡ 8192) × (length out ≡ 65536) × Ready t 8192 out × Reached Bare (doing t out)
+Inv-loop part₀ out₀ t₀ turns₀ part out t turns = (length part ≡ 8192) × (length out ≡ 65536) × Ready t 8192 out × Reached (t₀ .mode) (doing t out)
 
 abbrev μ-loop : tie.MeasureT-loop
 μ-loop part₀ out₀ t₀ turns₀ part out t turns = turns
@@ -34,7 +33,7 @@ loop-holds c =
       sym (c .before .before .part-buffer .ensures),
       sym (out .ensures),
       rw (c .start .ensures) (record { begun = begun-holds [] (omega arith); order = omega arith; within = omega arith; room = omega arith }),
-      rw (c .start .ensures) (reached-start Bare (out .result)),
+      rw (c .start .ensures) (reached-start (c .before .before .before .args .mode) (out .result)),
     )
 
 goes-on-requires : tie.Need-goes-on-requires Inv-loop μ-loop
@@ -67,8 +66,8 @@ say-requires c κs = search needs
 returns : tie.Need-returns Inv-loop μ-loop
 returns c = search needs
 
-pub main-spec : {M : Type 1} → statement M
-main-spec =
+pub run-spec : {M : Type 1} → statement M
+run-spec =
     tie.close
     (tie.spec
     Inv-loop

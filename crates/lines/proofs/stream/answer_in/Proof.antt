@@ -1,32 +1,53 @@
--- In the one mode there is, the answer is that of the line by itself, and the mode stays.
-use mathlib.Core.Path.{_≡_, ap}
-use mathlib.Core.List.{List}
-use Prim.Native.Nat.{ℕ}
+-- In the mode of bare lines the answer is that of the line by itself, and the mode stays; in that of a log a step is taken, and the number kept after it is the mode's.
+use mathlib.Core.Path.{_≡_, ap, ap₂, subst, sym}
 use lib.ListN.{length}
-use borrow.Author.Needs.{needs}
-use Rattle.whole.specs.Padded.{over}
 use Rattle.frame.specs.declared.Written.{Written}
-use Rattle.lines.specs.Output.{answerTo}
 use Rattle.lines.specs.Feeding.{AnswersLine}
-use Rattle.lines.specs.declared.Mode.{Mode}
-use Rattle.lines.specs.declared.Mode.the-variants.{Bare}
+use Rattle.lines.specs.declared.Stepped.{Stepped}
+use Rattle.lines.specs.declared.Mode.the-variants.{Bare, Log}
+use borrow.Author.Needs.{needs}
 use Rattle.lines.proofs.stream.answer_in.Statement.{statement}
 use Rattle.lines.proofs.stream.answer_in.Tie as tie
+
+enum-told : tie.Need-enum-told
+enum-told c = search needs
 
 put-answer-of-line-requires : tie.Need-put-answer-of-line-requires
 put-answer-of-line-requires c κs = search needs
 
+enum-known-mode : tie.Need-enum-known-mode
+enum-known-mode c = search needs
+
+put-step-requires : tie.Need-put-step-requires
+put-step-requires c κs = search needs
+
 same-length : tie.Need-same-length
 same-length c = search needs
 
-in-bare : (m : Mode) (l : List ℕ) {n : ℕ} (out : List ℕ) {out′ : List ℕ} → n ≡ length (answerTo l) → out′ ≡ over (answerTo l) out → AnswersLine m l (record { mode = Bare; written = n }) out out′
-in-bare Bare l out e o = (ap (λ n. record { mode = Bare; written = n }) e, o)
-
 returns : tie.Need-returns
 returns c =
-    let s = c .before .before .before .before .before .before in
+    let s = c .before .before .before .before .before .before .before .before in
     let put = c .before .before .put-answer-of-line in
-    in-bare (s .args .mode) (s .args .line .now) (s .args .out .now) (ap (λ (w : Written). w .bytes) (put .ensures .0)) (put .ensures .1)
+    subst (λ m. AnswersLine m (s .args .line .now) (record { mode = Bare; written = put .result .bytes }) (s .args .out .now) (put .last .1 .0)) (sym (c .before .before .before .before .enum-told .given .1)) (ap (λ (w : Written). record { mode = Bare; written = w .bytes }) (put .ensures .0), put .ensures .1)
+
+same-length-2 : tie.Need-same-length-2
+same-length-2 c = search needs
+
+returns-2 : tie.Need-returns-2
+returns-2 c =
+    let s = c .before .before .before .before .before .before .before .before .before .before in
+    let put = c .before .before .before .put-step in
+    subst (λ m. AnswersLine m (s .args .line .now) (record { mode = Log (put .result .kept); written = put .result .written .bytes }) (s .args .out .now) (put .last .1 .1 .0)) (sym (c .before .before .before .before .before .before .mode .given .1)) (ap₂ (λ k (w : Written). record { mode = Log k; written = w .bytes }) (put .ensures .1) (put .ensures .0 .0), put .ensures .0 .1)
 
 pub answer-in-spec : {M : Type 1} → statement M
-answer-in-spec = tie.close (tie.spec put-answer-of-line-requires same-length returns)
+answer-in-spec =
+    tie.close
+    (tie.spec
+    enum-told
+    put-answer-of-line-requires
+    enum-known-mode
+    put-step-requires
+    same-length
+    returns
+    same-length-2
+    returns-2)
