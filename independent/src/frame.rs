@@ -2,8 +2,8 @@
 
 use super::checker::{is_sound, point, verdict, Move, Point, Showing, Verdict};
 
-/// A refusal's number, 2 to 9. Refusal 1 is about lent room and cannot arise
-/// in a program that owns its output.
+/// A refusal's number, 2 to 9, and 10 in a log. Refusal 1 is about lent room
+/// and cannot arise in a program that owns its output.
 pub type Refusal = u8;
 
 pub const DIGITS: Refusal = 2;
@@ -28,8 +28,9 @@ fn digit(byte: u8) -> Option<u8> {
     }
 }
 
-fn bytes_of(line: &[u8]) -> Option<Vec<u8>> {
-    if line.is_empty() || line.len() % 2 != 0 || line.len() > MOST_DIGITS {
+/// The bytes of a line of at most so many digits.
+pub fn bytes_of(line: &[u8], most: usize) -> Option<Vec<u8>> {
+    if line.is_empty() || line.len() % 2 != 0 || line.len() > most {
         return None;
     }
     line.chunks(2)
@@ -43,11 +44,15 @@ fn in_reach(p: Point) -> bool {
 
 /// Reads a move, or gives the first refusal that applies to the whole of it.
 pub fn read_move(line: &[u8]) -> Result<Move, Refusal> {
-    let frame = bytes_of(line).ok_or(DIGITS)?;
+    let frame = bytes_of(line, MOST_DIGITS).ok_or(DIGITS)?;
     if frame[0] != 0x01 {
         return Err(KIND);
     }
+    read_frame(&frame)
+}
 
+/// The same of a frame whose first byte is 01.
+pub fn read_frame(frame: &[u8]) -> Result<Move, Refusal> {
     let count = |at: usize| match frame.get(at) {
         Some(&c) if (3..=16).contains(&c) => Ok(c as usize),
         _ => Err(COUNT),
@@ -89,7 +94,7 @@ pub fn read_move(line: &[u8]) -> Result<Move, Refusal> {
     Ok(m)
 }
 
-fn hex(bytes: &[u8]) -> Vec<u8> {
+pub fn hex(bytes: &[u8]) -> Vec<u8> {
     const DIGIT: &[u8; 16] = b"0123456789abcdef";
     bytes
         .iter()

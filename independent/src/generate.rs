@@ -163,22 +163,22 @@ impl Rng {
         low + (self.next() as i128) % (high - low + 1)
     }
 
-    fn index(&mut self, count: usize) -> usize {
+    pub fn index(&mut self, count: usize) -> usize {
         self.range(0, count as i128 - 1) as usize
     }
 
-    fn one_in(&mut self, count: i128) -> bool {
+    pub fn one_in(&mut self, count: i128) -> bool {
         self.range(1, count) == 1
     }
 
-    fn pick<T: Copy>(&mut self, choices: &[T]) -> T {
+    pub fn pick<T: Copy>(&mut self, choices: &[T]) -> T {
         choices[self.index(choices.len())]
     }
 
     /// A whole number from `low` (at least 1) to `high` that is as likely to
     /// be small as large: small numbers make the coincidences, large ones
     /// the long products.
-    fn size(&mut self, low: i128, high: i128) -> i128 {
+    pub fn size(&mut self, low: i128, high: i128) -> i128 {
         let mut doublings = 0;
         while low << doublings < high {
             doublings += 1;
@@ -690,7 +690,7 @@ fn needle(rng: &mut Rng) -> Option<Move> {
 }
 
 /// An outline anywhere in range, often right against its ends.
-fn scattered(rng: &mut Rng, outline: &[Point]) -> Vec<Point> {
+pub fn scattered(rng: &mut Rng, outline: &[Point]) -> Vec<Point> {
     let (low, high) = bounds(outline);
     let mut place = |low: i128, high: i128| {
         let (least, most) = (-REACH - low, REACH - high);
@@ -1097,7 +1097,7 @@ fn spoiled(rng: &mut Rng, outline: &[Point]) -> Vec<Point> {
     corners
 }
 
-fn unsound(rng: &mut Rng) -> Move {
+pub fn unsound(rng: &mut Rng) -> Move {
     let class = rng.pick(&[Class::Touching, Class::Still, Class::Full, Class::Instant]);
     loop {
         let mut m = sound_move(rng, class);
@@ -1134,11 +1134,11 @@ fn put_coordinate(rng: &mut Rng, p: &mut Point, value: i128) {
     }
 }
 
-fn limit_outside(rng: &mut Rng, m: &mut Move) {
+pub fn limit_outside(rng: &mut Rng, m: &mut Move) {
     m.limit = rng.pick(&[REACH + 1, REACH + 1, 32_768, 65_535]);
 }
 
-fn speed_outside(rng: &mut Rng, m: &mut Move) {
+pub fn speed_outside(rng: &mut Rng, m: &mut Move) {
     let value = just_outside(rng);
     let velocity = if rng.one_in(2) {
         &mut m.velocity_a
@@ -1148,7 +1148,7 @@ fn speed_outside(rng: &mut Rng, m: &mut Move) {
     put_coordinate(rng, velocity, value);
 }
 
-fn place_outside(rng: &mut Rng, m: &mut Move) {
+pub fn place_outside(rng: &mut Rng, m: &mut Move) {
     let value = just_outside(rng);
     let corners = if rng.one_in(2) { &mut m.a } else { &mut m.b };
     let i = rng.index(corners.len());
@@ -1156,7 +1156,7 @@ fn place_outside(rng: &mut Rng, m: &mut Move) {
 }
 
 /// A byte that may stand in a line but is no digit.
-fn no_digit(rng: &mut Rng) -> u8 {
+pub fn no_digit(rng: &mut Rng) -> u8 {
     loop {
         let byte = rng.range(0, 255) as u8;
         if byte != b'\n' && !matches!(byte, b'0'..=b'9' | b'a'..=b'f') {
@@ -1165,11 +1165,11 @@ fn no_digit(rng: &mut Rng) -> u8 {
     }
 }
 
-fn any_digits(rng: &mut Rng, count: usize) -> Vec<u8> {
+pub fn any_digits(rng: &mut Rng, count: usize) -> Vec<u8> {
     (0..count).map(|_| rng.pick(b"0123456789abcdef")).collect()
 }
 
-fn damaged(rng: &mut Rng) -> Vec<u8> {
+pub fn damaged(rng: &mut Rng) -> Vec<u8> {
     let class = rng.pick(&[Class::Touching, Class::Full, Class::Contained]);
     let mut m = sound_move(rng, class);
     let mut line = write_move(&m);

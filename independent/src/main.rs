@@ -3,19 +3,29 @@
 mod checker;
 mod frame;
 mod generate;
+mod log;
+mod runs;
 
 use checker::{directions, touched_at_zero, verdict, Move, Showing, Verdict};
+use frame::Refusal;
 use generate::Set;
+use log::{Kept, Step};
+use runs::Log;
 use std::io::{self, BufRead, BufReader, BufWriter, Write};
 use std::process::ExitCode;
 
 const USAGE: &str = "usage: independent [answer]
+       independent answer log
        independent moves SEED COUNT [SET | CLASS]
        independent count SEED COUNT [SET | CLASS]";
 
 /// One answer line for each line of the input. Lines end at byte 0a; a last
 /// one without it counts if it has a byte.
-fn answer(mut input: impl BufRead, mut output: impl Write) -> io::Result<()> {
+fn answer(
+    mut input: impl BufRead,
+    mut output: impl Write,
+    mut to: impl FnMut(&[u8]) -> Result<Verdict, Refusal>,
+) -> io::Result<()> {
     let mut line = Vec::new();
     loop {
         line.clear();
@@ -25,18 +35,52 @@ fn answer(mut input: impl BufRead, mut output: impl Write) -> io::Result<()> {
         if line.last() == Some(&b'\n') {
             line.pop();
         }
-        let mut written = frame::write_answer(&frame::answer(&line));
+        let mut written = frame::write_answer(&to(&line));
         written.push(b'\n');
         output.write_all(&written)?;
     }
 }
 
-fn moves(mut output: impl Write, seed: u64, count: u64, set: Set) -> io::Result<()> {
-    for place in 0..count {
-        let class = generate::class_of_place(set, place);
-        let mut line = generate::line(seed, place, class);
+/// The same of a log, whose answers depend on the lines before.
+fn answer_log(input: impl BufRead, output: impl Write) -> io::Result<()> {
+    let mut kept = None;
+    answer(input, output, |line| {
+        let step = log::step(kept, line);
+        kept = step.kept;
+        step.answer
+    })
+}
+
+/// What lines are made of: classes of moves, or of the lines of a log.
+#[derive(Clone, Copy)]
+enum Made {
+    Moves(Set),
+    Log(runs::Set),
+}
+
+/// The set or the class of this name.
+fn made_named(name: &str) -> Option<Made> {
+    if name == "Q-2" {
+        return Some(Made::Log(runs::LOG));
+    }
+    let moves = generate::set_named(name).or_else(|| generate::class_named(name));
+    let log = || runs::class_named(name).map(Made::Log);
+    moves.map(Made::Moves).or_else(log)
+}
+
+fn moves(mut output: impl Write, seed: u64, count: u64, made: Made) -> io::Result<()> {
+    let mut put = |mut line: Vec<u8>| {
         line.push(b'\n');
-        output.write_all(&line)?;
+        output.write_all(&line)
+    };
+    match made {
+        Made::Moves(set) => (0..count).try_for_each(|place| {
+            let class = generate::class_of_place(set, place);
+            put(generate::line(seed, place, class))
+        })?,
+        Made::Log(set) => Log::new(seed, set)
+            .take(count as usize)
+            .try_for_each(|(_, line)| put(line))?,
     }
     output.flush()
 }
@@ -100,43 +144,147 @@ fn cases(read: &Result<Move, frame::Refusal>) -> Vec<&'static str> {
     }
 }
 
-/// The same moves, not written but answered and counted.
-fn count(mut output: impl Write, seed: u64, count: u64, set: Set) -> io::Result<()> {
-    let mut table = vec![[0u64; CASES.len()]; set.len()];
-    let mut lines = vec![0u64; set.len()];
+/// The cases a line of a log is counted under. An accepted one counts by its
+/// number: the `first` of all, or so far on from the kept one, and `rolled` if
+/// that leads over the rollover. One that is out of order counts by its number
+/// too; `passed-10` is refused with 5 to 9 and would be out of order.
+const LOG_CASES: [&str; 18] = [
+    "accepted",
+    "first",
+    "by-1",
+    "by-more",
+    "by-32767",
+    "rolled",
+    "r2",
+    "r3",
+    "r4",
+    "r5",
+    "r6",
+    "r7",
+    "r8",
+    "r9",
+    "passed-10",
+    "r10-same",
+    "r10-half",
+    "r10-back",
+];
+
+fn log_cases(kept: Kept, line: &[u8], step: &Step) -> Vec<&'static str> {
+    // Both are lines whose number can be read.
+    let number = || {
+        let bytes = frame::bytes_of(line, log::MOST_DIGITS).unwrap();
+        u16::from_be_bytes([bytes[1], bytes[2]])
+    };
+    match (&step.answer, kept) {
+        (Ok(_), None) => vec!["accepted", "first"],
+        (Ok(_), Some(kept)) => {
+            let by = match log::steps(kept, number()) {
+                1 => "by-1",
+                log::FARTHEST => "by-32767",
+                _ => "by-more",
+            };
+            let mut all = vec!["accepted", by];
+            if number() < kept {
+                all.push("rolled");
+            }
+            all
+        }
+        (Err(log::ORDER), Some(kept)) => vec![match log::steps(kept, number()) {
+            0 => "r10-same",
+            32_768 => "r10-half",
+            _ => "r10-back",
+        }],
+        (Err(refusal), kept) => {
+            let mut all = vec![LOG_CASES[*refusal as usize + 4]];
+            if *refusal >= frame::LIMIT && log::lost(kept, number()).is_none() {
+                all.push("passed-10");
+            }
+            all
+        }
+    }
+}
+
+/// How often each case came up in each class.
+struct Table {
+    cases: &'static [&'static str],
+    rows: Vec<(&'static str, u64, Vec<u64>)>,
+}
+
+impl Table {
+    fn new(cases: &'static [&'static str], classes: impl Iterator<Item = &'static str>) -> Table {
+        let row = |name| (name, 0, vec![0; cases.len()]);
+        let rows = classes.map(row).collect();
+        Table { cases, rows }
+    }
+
+    fn add(&mut self, row: usize, met: &[&str]) {
+        let (_, lines, counts) = &mut self.rows[row];
+        *lines += 1;
+        for case in met {
+            counts[self.cases.iter().position(|c| c == case).unwrap()] += 1;
+        }
+    }
+
+    /// The rows, and their sum.
+    fn write(&self, output: &mut impl Write) -> io::Result<()> {
+        let all = |of: &dyn Fn(&(&str, u64, Vec<u64>)) -> u64| self.rows.iter().map(of).sum();
+        let sums = (0..self.cases.len()).map(|column| all(&|row| row.2[column]));
+        let sum = ("all", all(&|row| row.1), sums.collect());
+        let widths: Vec<usize> = self.cases.iter().map(|c| 9.max(c.len() + 1)).collect();
+        let wide = self.rows.iter().map(|(name, _, _)| name.len() + 1).max();
+        let wide = wide.unwrap_or(0).max(10);
+        write!(output, "{:<wide$}{:>9}", "class", "lines")?;
+        for (case, width) in self.cases.iter().zip(&widths) {
+            write!(output, "{case:>width$}")?;
+        }
+        writeln!(output)?;
+        for (name, lines, counts) in self.rows.iter().chain([&sum]) {
+            write!(output, "{name:<wide$}{lines:>9}")?;
+            for (number, width) in counts.iter().zip(&widths) {
+                write!(output, "{number:>width$}")?;
+            }
+            writeln!(output)?;
+        }
+        Ok(())
+    }
+}
+
+/// The same lines, not written but answered and counted.
+fn count(mut output: impl Write, seed: u64, count: u64, made: Made) -> io::Result<()> {
+    match made {
+        Made::Moves(set) => count_moves(seed, count, set).write(&mut output)?,
+        Made::Log(set) => {
+            let (table, lost) = count_log(seed, count, set);
+            table.write(&mut output)?;
+            writeln!(output, "lines lost in all: {lost}")?;
+        }
+    }
+    output.flush()
+}
+
+fn count_moves(seed: u64, count: u64, set: Set) -> Table {
+    let mut table = Table::new(&CASES, set.iter().map(|(_, name)| *name));
     for place in 0..count {
         let class = generate::class_of_place(set, place);
         let row = set.iter().position(|(c, _)| *c == class).unwrap();
         let read = frame::read_move(&generate::line(seed, place, class));
-        lines[row] += 1;
-        for case in cases(&read) {
-            let column = CASES.iter().position(|c| *c == case).unwrap();
-            table[row][column] += 1;
-        }
+        table.add(row, &cases(&read));
     }
+    table
+}
 
-    write!(output, "{:<10}{:>9}", "class", "lines")?;
-    for case in CASES {
-        write!(output, "{case:>9}")?;
+/// The counts of a log, and how many lines it has lost.
+fn count_log(seed: u64, count: u64, set: runs::Set) -> (Table, u64) {
+    let mut table = Table::new(&LOG_CASES, set.iter().map(|(_, name)| *name));
+    let (mut kept, mut lost) = (None, 0);
+    for (class, line) in Log::new(seed, set).take(count as usize) {
+        let row = set.iter().position(|(c, _)| *c == class).unwrap();
+        let step = log::step(kept, &line);
+        table.add(row, &log_cases(kept, &line, &step));
+        kept = step.kept;
+        lost += u64::from(step.lost);
     }
-    writeln!(output)?;
-    for (row, (_, name)) in set.iter().enumerate() {
-        write!(output, "{name:<10}{:>9}", lines[row])?;
-        for number in table[row] {
-            write!(output, "{number:>9}")?;
-        }
-        writeln!(output)?;
-    }
-    write!(output, "{:<10}{:>9}", "all", count)?;
-    for column in 0..CASES.len() {
-        write!(
-            output,
-            "{:>9}",
-            table.iter().map(|row| row[column]).sum::<u64>()
-        )?;
-    }
-    writeln!(output)?;
-    output.flush()
+    (table, lost)
 }
 
 fn main() -> ExitCode {
@@ -144,23 +292,20 @@ fn main() -> ExitCode {
     let words: Vec<&str> = arguments.iter().map(String::as_str).collect();
     let output = BufWriter::new(io::stdout().lock());
     let number = |word: &str| word.parse::<u64>().ok();
-    let set = |word: &str| generate::set_named(word).or_else(|| generate::class_named(word));
-    let numbers = |seed: &str, lines: &str| number(seed).zip(number(lines));
+    let input = || BufReader::new(io::stdin().lock());
+    let wanted =
+        |seed: &str, lines: &str, of: &str| Some((number(seed)?, number(lines)?, made_named(of)?));
 
     let done = match words[..] {
-        [] | ["answer"] => Some(answer(BufReader::new(io::stdin().lock()), output)),
-        ["moves", seed, lines] => {
-            numbers(seed, lines).map(|(seed, lines)| moves(output, seed, lines, generate::BASE))
+        [] | ["answer"] => Some(answer(input(), output, frame::answer)),
+        ["answer", "log"] => Some(answer_log(input(), output)),
+        [task @ ("moves" | "count"), seed, lines, ref of @ ..] if of.len() <= 1 => {
+            let of = of.first().copied().unwrap_or("base");
+            wanted(seed, lines, of).map(|(seed, lines, made)| match task {
+                "moves" => moves(output, seed, lines, made),
+                _ => count(output, seed, lines, made),
+            })
         }
-        ["moves", seed, lines, of] => numbers(seed, lines)
-            .zip(set(of))
-            .map(|((seed, lines), set)| moves(output, seed, lines, set)),
-        ["count", seed, lines] => {
-            numbers(seed, lines).map(|(seed, lines)| count(output, seed, lines, generate::BASE))
-        }
-        ["count", seed, lines, of] => numbers(seed, lines)
-            .zip(set(of))
-            .map(|((seed, lines), set)| count(output, seed, lines, set)),
         _ => None,
     };
 
@@ -179,3 +324,5 @@ fn main() -> ExitCode {
 
 #[cfg(test)]
 mod tests;
+#[cfg(test)]
+mod tests_log;

@@ -25,7 +25,7 @@ fn case(a: Vec<Point>, b: Vec<Point>, velocity: (i128, i128), limit: i128) -> Mo
 
 /// The paper's cases P1 to P12 with the answer lines they must have, that of
 /// P9 by request Q-1.
-fn paper_cases() -> Vec<(Move, &'static str)> {
+pub fn paper_cases() -> Vec<(Move, &'static str)> {
     let ten = points(&[(0, 0), (10, 0), (10, 10), (0, 10)]);
     let lying = points(&[(-5, -1), (5, -1), (5, 1), (-5, 1)]);
     let standing = points(&[(-1, -5), (1, -5), (1, 5), (-1, 5)]);
@@ -72,7 +72,7 @@ fn paper_cases() -> Vec<(Move, &'static str)> {
 /// What the program prints for an input.
 fn printed(input: &[u8]) -> String {
     let mut output = Vec::new();
-    super::answer(input, &mut output).unwrap();
+    super::answer(input, &mut output, frame::answer).unwrap();
     String::from_utf8(output).unwrap()
 }
 
