@@ -1,9 +1,11 @@
 //! Works out every number of docs/BY-HAND.md from its move lines, in the
 //! order of the definitions. See tests/by-hand.
 //!
-//!     by_hand --print      the blocks of the document, in its order
-//!     by_hand --lines      the move lines
-//!     by_hand --answers    the answer lines
+//!     by_hand --print          the blocks of the document, in its order
+//!     by_hand --lines          the move lines
+//!     by_hand --answers        the answer lines
+//!     by_hand --log            the lines of the log
+//!     by_hand --log-answers    their answer lines
 //!
 //! It shares no code with the program or with the independent one. What the
 //! document concludes from the numbers is checked here before it is printed:
@@ -109,7 +111,14 @@ struct Move {
     b: Vec<Point>,
 }
 
+/// A move whose outlines are sound.
 fn read(line: &'static str) -> Move {
+    let m = read_any(line);
+    check(is_sound(&m.a) && is_sound(&m.b), "both outlines are sound");
+    m
+}
+
+fn read_any(line: &'static str) -> Move {
     let byte = |i: usize| u8::from_str_radix(&line[2 * i..2 * i + 2], 16);
     let frame: Result<Vec<u8>, _> = (0..line.len() / 2).map(byte).collect();
     let frame = frame.expect("two digits a byte");
@@ -119,7 +128,7 @@ fn read(line: &'static str) -> Move {
     let signed = |at: usize| i16::from_be_bytes([frame[at], frame[at + 1]]) as i128;
     let pair = |at: usize| Point(signed(at), signed(at + 2));
     let corners = |at: usize, count: usize| (0..count).map(|i| pair(at + 4 * i)).collect();
-    let m = Move {
+    Move {
         line,
         limit: frame[3] as i128 * 256 + frame[4] as i128,
         va: pair(5),
@@ -127,9 +136,7 @@ fn read(line: &'static str) -> Move {
         a: corners(13, count_a),
         b: corners(13 + 4 * count_a, count_b),
         frame,
-    };
-    check(is_sound(&m.a) && is_sound(&m.b), "both outlines are sound");
-    m
+    }
 }
 
 fn next(outline: &[Point], i: usize) -> usize {
@@ -878,6 +885,7 @@ fn answer(sides: &[Side], v: Verdict) -> (Vec<u8>, Vec<(usize, String)>) {
 }
 
 // ---------------------------------------------------------------------------
+// The moves.
 
 /// P1 is line 1 of the examples, and so on.
 fn example(number: usize) -> &'static str {
@@ -891,10 +899,180 @@ const F: &str = "010304000a0001000100000001\
                  000000000003000000010003\
                  00040002000600020009000400060004";
 
-fn print(name: &str, m: &Move, p1: &Move, sides: &[Side], v: Verdict) {
-    let block = |what: &str, content: String| {
-        print!("<!-- by-hand: {name} {what} -->\n{content}<!-- end -->\n");
+/// The line of a move by its name.
+fn named(name: &str) -> &'static str {
+    match name.strip_prefix('P') {
+        Some(number) => example(number.parse().expect("a case has a number")),
+        None => F,
+    }
+}
+
+fn sides_of(m: &Move) -> Vec<Side> {
+    (0..m.a.len() + m.b.len()).map(|k| side(m, k)).collect()
+}
+
+// ---------------------------------------------------------------------------
+// The log.
+
+/// The numbers are those of two bytes, and half of them, but for the line
+/// itself, are forward of it.
+const NUMBERS: i128 = 65536;
+const FARTHEST: i128 = NUMBERS / 2 - 1;
+
+/// The lines of the log: number and move.
+const LOG: [(u16, &str); 9] = [
+    (65534, "P1"),
+    (65535, "P3"),
+    (4, "F"),
+    (4, "P3"),
+    (3, "P6"),
+    (5, "P12"),
+    (5, "P6"),
+    (32773, "P1"),
+    (32772, "P9"),
+];
+
+/// A line of the log, worked out: its cells in the table, and what it leaves.
+struct Logged {
+    difference: String,
+    order: String,
+    lost: Option<i128>,
+    answer: Vec<u8>,
+    kept: Option<i128>,
+}
+
+fn logged(kept: Option<i128>, number: i128, m: &Move) -> Logged {
+    let refused = |difference: String, order: String, refusal: u8| Logged {
+        difference,
+        order,
+        lost: None,
+        answer: vec![0x81, 0xff, refusal],
+        kept,
     };
+    if !is_sound(&m.a) || !is_sound(&m.b) {
+        let (name, refusal) = if is_sound(&m.a) { ('B', 9) } else { ('A', 8) };
+        let why = format!("{name} is not sound: refusal {refusal}");
+        return refused("not asked".into(), why, refusal);
+    }
+    let (difference, steps) = match kept {
+        None => ("none".into(), 1),
+        Some(kept) if number < kept => {
+            let (below, steps) = (number - kept, number - kept + NUMBERS);
+            let first = difference(number, kept, below);
+            (format!("{first}; {below} + {NUMBERS} = {steps}"), steps)
+        }
+        Some(kept) => (difference(number, kept, number - kept), number - kept),
+    };
+    // Against counting: so many steps from number to number lead there.
+    if let Some(kept) = kept {
+        let next = |n: i128| if n == NUMBERS - 1 { 0 } else { n + 1 };
+        let there = (0..steps).fold(kept, |n, _| next(n));
+        check(there == number, "the difference leads to the number");
+    }
+    if !(1..=FARTHEST).contains(&steps) {
+        return refused(difference, "out of order: refusal 10".into(), 10);
+    }
+    let order = match kept {
+        None => "the first".to_string(),
+        Some(_) => "forward".to_string(),
+    };
+    let sides = sides_of(m);
+    Logged {
+        difference,
+        order,
+        lost: Some(steps - 1),
+        answer: answer(&sides, verdict(m, &sides)).0,
+        kept: Some(number),
+    }
+}
+
+/// Each line of the log with what it comes to.
+fn worked_log() -> Vec<(i128, &'static str, Option<i128>, Logged)> {
+    let mut kept = None;
+    let mut all = Vec::new();
+    for (number, name) in LOG {
+        let worked = logged(kept, number.into(), &read_any(named(name)));
+        let before = std::mem::replace(&mut kept, worked.kept);
+        all.push((number.into(), name, before, worked));
+    }
+    all
+}
+
+fn log_frame(number: i128, m: &Move) -> Vec<u8> {
+    [
+        &[3, (number / 256) as u8, (number % 256) as u8],
+        &m.frame[..],
+    ]
+    .concat()
+}
+
+fn log_line_block() -> String {
+    let (number, name) = LOG[0];
+    let m = read(named(name));
+    let fields = [
+        (1, "a line of a log".to_string()),
+        (2, format!("its number: {number}")),
+        (m.frame.len(), format!("the move {name}")),
+    ];
+    frame_table(&log_frame(number.into(), &m), &fields)
+}
+
+fn log_rule_block() -> String {
+    let rows = [
+        format!("1 to {FARTHEST} | forward | the difference less 1"),
+        format!(
+            "0, and {} to {} | out of order: refusal 10 | none; the kept number stays",
+            FARTHEST + 1,
+            NUMBERS - 1
+        ),
+    ];
+    format!(
+        "The numbers are 0 to {}, and after {0} comes 0: {NUMBERS} of them.\n\n{}",
+        NUMBERS - 1,
+        table("Difference | The line is | Lines lost before it", &rows)
+    )
+}
+
+fn log_block() -> String {
+    let worked = worked_log();
+    let row = |(i, (number, name, kept, line)): (usize, &(i128, &str, Option<i128>, Logged))| {
+        let known = kept.map_or("none".to_string(), |kept| kept.to_string());
+        let lost = match line.lost {
+            None => String::new(),
+            Some(lost) if kept.is_some() => difference(lost + 1, 1, lost),
+            Some(lost) => lost.to_string(),
+        };
+        format!(
+            "{} | `{number:04x}` = {number} | {known} | {} | {} | {lost} | {name} | `{}`",
+            i + 1,
+            line.difference,
+            line.order,
+            hex(&line.answer)
+        )
+    };
+    let rows: Vec<String> = worked.iter().enumerate().map(row).collect();
+    let head =
+        "Line | Number | Kept before | Number less kept | The line is | Lost | Move | Answer line";
+    let lost: Vec<i128> = worked.iter().filter_map(|w| w.3.lost).collect();
+    let sum = list(&lost).replace(", ", " + ");
+    format!(
+        "{}\n{} of {} lines are accepted, and {sum} = {} lines were lost before them.\n",
+        table(head, &rows),
+        lost.len(),
+        worked.len(),
+        lost.iter().sum::<i128>()
+    )
+}
+
+// ---------------------------------------------------------------------------
+
+/// A block of the document.
+fn block(name: &str, content: String) {
+    print!("<!-- by-hand: {name} -->\n{content}<!-- end -->\n");
+}
+
+fn print(name: &str, m: &Move, p1: &Move, sides: &[Side], v: Verdict) {
+    let block = |what: &str, content: String| block(&format!("{name} {what}"), content);
     block("move", move_block(m, sides, v));
     if name == "P3" {
         block("line", limit_block(m, p1));
@@ -927,25 +1105,35 @@ fn print(name: &str, m: &Move, p1: &Move, sides: &[Side], v: Verdict) {
 fn main() {
     let wanted = std::env::args().nth(1).unwrap_or_default();
     let p1 = read(example(1));
-    for (name, line) in [
-        ("P1", example(1)),
-        ("F", F),
-        ("P9", example(9)),
-        ("P3", example(3)),
-        ("P6", example(6)),
-    ] {
-        let m = read(line);
-        let count = m.a.len() + m.b.len();
-        let sides: Vec<Side> = (0..count).map(|k| side(&m, k)).collect();
+    let worked = ["P1", "F", "P9", "P3", "P6"].map(|name| {
+        let m = read(named(name));
+        let sides = sides_of(&m);
         let v = verdict(&m, &sides);
-        match wanted.as_str() {
-            "--print" => print(name, &m, &p1, &sides, v),
-            "--lines" => println!("{line}"),
-            "--answers" => println!("{}", hex(&answer(&sides, v).0)),
-            _ => {
-                eprintln!("usage: by_hand --print | --lines | --answers");
-                std::process::exit(2);
+        (name, m, sides, v)
+    });
+    match wanted.as_str() {
+        "--print" => {
+            for (name, m, sides, v) in &worked {
+                print(name, m, &p1, sides, *v);
             }
+            block("log line", log_line_block());
+            block("log rule", log_rule_block());
+            block("log", log_block());
+        }
+        "--lines" => worked.iter().for_each(|(_, m, ..)| println!("{}", m.line)),
+        "--answers" => worked
+            .iter()
+            .for_each(|(_, _, sides, v)| println!("{}", hex(&answer(sides, *v).0))),
+        "--log" => LOG.iter().for_each(|(number, name)| {
+            let m = read_any(named(name));
+            println!("{}", hex(&log_frame((*number).into(), &m)));
+        }),
+        "--log-answers" => worked_log()
+            .iter()
+            .for_each(|(.., line)| println!("{}", hex(&line.answer))),
+        _ => {
+            eprintln!("usage: by_hand --print | --lines | --answers | --log | --log-answers");
+            std::process::exit(2);
         }
     }
 }
