@@ -11,8 +11,9 @@
  *
  * Go on clear and on nothing else: a return of 0, line[2] == '0', and line[3]
  * == '0' or '1'. examples/c/answer.c does so. docs/FORMAT.md has every byte of
- * the lines. stonefruitle_read_line, stonefruitle_read_move and
- * stonefruitle_test_outline do not look whether outlines meet at all.
+ * the lines. stonefruitle_read_line, stonefruitle_read_move,
+ * stonefruitle_read_log and stonefruitle_test_outline do not look whether
+ * outlines meet at all.
  *
  * Link with libstonefruitle_c.a (`rt staticlib stonefruitle_c` writes it to
  * target/staticlib). Each function is proved to meet its contract, which says
@@ -49,8 +50,9 @@
  * components are from -10000 to 10000, the limit is from 0 to 10000. Numbers
  * outside are refused; no input of any kind is undefined.
  *
- * Lines. A move line or an answer line is hexadecimal text, closed by byte 0a
- * where it is written and handed in without it (docs/FORMAT.md).
+ * Lines. A move line, a line of a log or an answer line is hexadecimal text,
+ * closed by byte 0a where it is written and handed in without it
+ * (docs/FORMAT.md).
  *
  * Each function returns the number of its refusal, 0 for none. Of several that
  * apply the first in this list is returned.
@@ -58,25 +60,27 @@
 #ifndef STONEFRUITLE_H
 #define STONEFRUITLE_H
 
+#include <stdbool.h>
 #include <stddef.h>
 #include <stdint.h>
 
 #define STONEFRUITLE_NONE 0   /* no refusal; a contact is none */
 #define STONEFRUITLE_ROOM 1   /* too few bytes lent for the line */
-#define STONEFRUITLE_DIGITS 2 /* a line that is empty, odd in length, over 282 digits, or with another character than 0-9 and a-f */
-#define STONEFRUITLE_KIND 3   /* a line whose first byte is not 01 */
+#define STONEFRUITLE_DIGITS 2 /* a line that is empty, odd in length, over 282 digits (288 in a log), or with another character than 0-9 and a-f */
+#define STONEFRUITLE_KIND 3   /* a line whose first byte is not 01; in a log, not 03, or a fourth byte is there and is not 01 */
 #define STONEFRUITLE_COUNT 4  /* a count of corners outside 3 to 16, a list of odd length, or a line of another length than its counts ask for */
 #define STONEFRUITLE_LIMIT 5  /* the limit is outside 0 to 10000 */
 #define STONEFRUITLE_SPEED 6  /* a velocity component is outside -10000 to 10000 */
 #define STONEFRUITLE_PLACE 7  /* a coordinate is outside -10000 to 10000 */
 #define STONEFRUITLE_FIRST 8  /* the first outline is not sound */
 #define STONEFRUITLE_SECOND 9 /* the second outline is not sound */
+#define STONEFRUITLE_ORDER 10 /* a line of a log whose number does not follow the kept one */
 
 /* The least room for an answer line and for a move line, 0a included. */
 #define STONEFRUITLE_ANSWER_ROOM 45
 #define STONEFRUITLE_MOVE_ROOM 283
 
-/* How many numbers stonefruitle_read_move hands out, and where they stand. */
+/* How many numbers stonefruitle_read_move and stonefruitle_read_log hand out, and where they stand. */
 #define STONEFRUITLE_NUMBERS 71
 #define STONEFRUITLE_AT_LIMIT 0
 #define STONEFRUITLE_AT_VELOCITY_A 1
@@ -163,6 +167,47 @@ uint8_t stonefruitle_read_line(const uint8_t *line, size_t line_length);
  */
 uint8_t stonefruitle_read_move(const uint8_t *line, size_t line_length,
                                int64_t numbers[STONEFRUITLE_NUMBERS]);
+
+/*
+ * One line of a log: its answer, and what it leaves for the next line.
+ *
+ * Takes what the lines before it leave: kept_some, whether one of them was
+ * accepted, and kept_number, the number of the last that was, which is not
+ * looked at where kept_some is false. Takes the line without its 0a, a buffer
+ * for the answer line and four places. The first call of a log has kept_some
+ * false; each later one is handed what the one before left.
+ *
+ * Refusals: 1 where out_length is under 45; 2 to 9; then 10 where a number is
+ * kept and the line's is none of the 32767 that follow it, 0 coming after
+ * 65535.
+ *
+ * Without a refusal *kept_some_after is true, *kept_number_after is the line's
+ * number and *lost is how many numbers were left out before it, 0 to 32766; 0
+ * where none was kept. With any refusal, 1 and 10 too, what is kept stays:
+ * *kept_some_after is kept_some, *kept_number_after is kept_number, or 0 where
+ * none is kept; and *lost is 0.
+ *
+ * out and *written are left as by stonefruitle_answer_line, with refusal 10 as
+ * with 2 to 9. The answer to a line that is accepted is that to its move.
+ */
+uint8_t stonefruitle_log_step(bool kept_some, uint16_t kept_number,
+                              const uint8_t *line, size_t line_length,
+                              uint8_t *out, size_t out_length,
+                              bool *kept_some_after,
+                              uint16_t *kept_number_after, uint16_t *lost,
+                              size_t *written);
+
+/*
+ * The number and the move of a line of a log.
+ *
+ * Takes the line without its 0a, a place for its number and one for 71 numbers,
+ * all of which are written as by stonefruitle_read_move. Refusals: 2 to 9, and
+ * then *number and all 71 numbers are zero. Whether the line is in order is not
+ * looked at.
+ */
+uint8_t stonefruitle_read_log(const uint8_t *line, size_t line_length,
+                              uint16_t *number,
+                              int64_t numbers[STONEFRUITLE_NUMBERS]);
 
 /*
  * Whether an outline is sound.

@@ -21,7 +21,8 @@
 enum { MOST_STACK = 5120, STACK = 1 << 18, PAINT = 0xa5, CORNERS = 16, CALLS = 20 };
 
 static uint8_t stack[STACK];
-static uint8_t line[STONEFRUITLE_MOVE_ROOM], out[STONEFRUITLE_MOVE_ROOM];
+static const char head[] = "030001"; /* what makes a line of a log of it */
+static uint8_t line[STONEFRUITLE_MOVE_ROOM], log_line[STONEFRUITLE_MOVE_ROOM + sizeof head], out[STONEFRUITLE_MOVE_ROOM];
 static size_t line_length, written;
 static int64_t a[2 * CORNERS], b[2 * CORNERS], numbers[STONEFRUITLE_NUMBERS];
 static const size_t count = 2 * CORNERS;
@@ -47,6 +48,19 @@ static void call_read_line(void) { stonefruitle_read_line(line, line_length); }
 
 static void call_read_move(void) { stonefruitle_read_move(line, line_length, numbers); }
 
+static void call_log_step(void)
+{
+    bool some;
+    uint16_t number, lost;
+    stonefruitle_log_step(true, 0, log_line, line_length + strlen(head), out, sizeof out, &some, &number, &lost, &written);
+}
+
+static void call_read_log(void)
+{
+    uint16_t number;
+    stonefruitle_read_log(log_line, line_length + strlen(head), &number, numbers);
+}
+
 static void call_test_outline(void) { stonefruitle_test_outline(a, count); }
 
 static const struct {
@@ -55,6 +69,7 @@ static const struct {
 } functions[] = {
     {"answer_line", call_answer_line}, {"answer_lists", call_answer_lists}, {"write_move", call_write_move},
     {"read_line", call_read_line},     {"read_move", call_read_move},       {"test_outline", call_test_outline},
+    {"log_step", call_log_step},       {"read_log", call_read_log},
 };
 enum { FUNCTIONS = sizeof functions / sizeof functions[0] };
 
@@ -83,6 +98,8 @@ static size_t deepest[FUNCTIONS];
 static void measure_stack(void)
 {
     size_t nothing = used(call_nothing);
+    memcpy(log_line, head, strlen(head));
+    memcpy(log_line + strlen(head), line, line_length);
     for (int i = 0; i < FUNCTIONS; i++) {
         size_t more = used(functions[i].call) - nothing;
         if (more > deepest[i])

@@ -56,6 +56,24 @@ extern "C" {
     ) -> u8;
     fn stonefruitle_read_line(line: *const u8, line_length: usize) -> u8;
     fn stonefruitle_read_move(line: *const u8, line_length: usize, numbers: *mut i64) -> u8;
+    fn stonefruitle_log_step(
+        kept_some: bool,
+        kept_number: u16,
+        line: *const u8,
+        line_length: usize,
+        out: *mut u8,
+        out_length: usize,
+        kept_some_after: *mut bool,
+        kept_number_after: *mut u16,
+        lost: *mut u16,
+        written: *mut usize,
+    ) -> u8;
+    fn stonefruitle_read_log(
+        line: *const u8,
+        line_length: usize,
+        number: *mut u16,
+        numbers: *mut i64,
+    ) -> u8;
     fn stonefruitle_test_outline(coordinates: *const i64, length: usize) -> u8;
 }
 
@@ -72,9 +90,9 @@ pub const NUMBERS: usize = 71;
 pub enum Refusal {
     /// Too few bytes lent for the line.
     Room = 1,
-    /// A line that is empty, odd in length, over 282 digits, or with another character than 0-9 and a-f.
+    /// A line that is empty, odd in length, over 282 digits (288 in a log), or with another character than 0-9 and a-f.
     Digits = 2,
-    /// A line whose first byte is not 01.
+    /// A line whose first byte is not 01; in a log, not 03, or a fourth byte is there and is not 01.
     Kind = 3,
     /// A count of corners outside 3 to 16, a list of odd length, or a line of another length than its counts ask for.
     Count = 4,
@@ -88,10 +106,12 @@ pub enum Refusal {
     First = 8,
     /// The second outline is not sound.
     Second = 9,
+    /// A line of a log whose number does not follow the kept one.
+    Order = 10,
 }
 
 impl Refusal {
-    const ALL: [Refusal; 9] = [
+    const ALL: [Refusal; 10] = [
         Refusal::Room,
         Refusal::Digits,
         Refusal::Kind,
@@ -101,22 +121,23 @@ impl Refusal {
         Refusal::Place,
         Refusal::First,
         Refusal::Second,
+        Refusal::Order,
     ];
 
     pub fn number(self) -> u8 {
         self as u8
     }
 
-    /// The refusal of a number from 1 to 9.
+    /// The refusal of a number from 1 to 10.
     pub fn of_number(number: u8) -> Option<Refusal> {
         Refusal::ALL.into_iter().find(|r| r.number() == number)
     }
 
-    /// What a call returned: no refusal for 0. The library returns no number above 9.
+    /// What a call returned: no refusal for 0. The library returns no number above 10.
     fn returned(number: u8) -> Option<Refusal> {
         match number {
             0 => None,
-            n => Some(Refusal::of_number(n).expect("a refusal is from 1 to 9")),
+            n => Some(Refusal::of_number(n).expect("a refusal is from 1 to 10")),
         }
     }
 }
@@ -133,6 +154,7 @@ impl fmt::Display for Refusal {
             Refusal::Place => "a coordinate is out of range",
             Refusal::First => "the first outline is not sound",
             Refusal::Second => "the second outline is not sound",
+            Refusal::Order => "the line of the log is out of order",
         })
     }
 }
@@ -160,6 +182,17 @@ pub struct ReadMove {
 }
 
 impl ReadMove {
+    fn of_numbers(numbers: &[i64; NUMBERS]) -> ReadMove {
+        let list = |from: usize, count: i64| numbers[from..from + 2 * count as usize].to_vec();
+        ReadMove {
+            a: list(7, numbers[5]),
+            b: list(39, numbers[6]),
+            velocity_a: (numbers[1], numbers[2]),
+            velocity_b: (numbers[3], numbers[4]),
+            limit: numbers[0],
+        }
+    }
+
     pub fn as_move(&self) -> Move<'_> {
         Move {
             a: &self.a,
@@ -267,6 +300,38 @@ pub struct Written {
     pub bytes: usize,
 }
 
+/// The number of the last line of a log that was accepted; none where none was, as at its beginning.
+pub type Kept = Option<u16>;
+
+/// What a line of a log is answered with, and what it leaves for the next.
+#[derive(Clone, Copy, Debug, PartialEq, Eq)]
+pub struct LogStep {
+    pub answer: Result<Answer, Refusal>,
+    /// To be handed in with the next line: the line's number, or where it is refused what was kept before.
+    pub kept: Kept,
+    /// How many lines were lost before this one; 0 for the first that is accepted, and where the line is refused.
+    pub lost: u16,
+}
+
+/// The same of a call that writes to a lent buffer.
+#[derive(Clone, Copy, Debug, PartialEq, Eq)]
+pub struct LogWritten {
+    pub written: Written,
+    pub kept: Kept,
+    pub lost: u16,
+}
+
+/// The answer to a line of a log, which stands without its 0a, after lines that leave this kept.
+pub fn log_step(kept: Kept, line: &[u8]) -> LogStep {
+    let mut out = [0; ANSWER_ROOM];
+    let step = log_step_into(kept, line, &mut out);
+    LogStep {
+        answer: said(&out, step.written),
+        kept: step.kept,
+        lost: step.lost,
+    }
+}
+
 /// The answer to a move line, which stands without its 0a.
 pub fn answer_line(line: &[u8]) -> Result<Answer, Refusal> {
     let mut out = [0; ANSWER_ROOM];
@@ -302,16 +367,16 @@ pub fn read_move(line: &[u8]) -> Result<ReadMove, Refusal> {
     let mut numbers = [0; NUMBERS];
     match read_move_into(line, &mut numbers) {
         Some(refusal) => Err(refusal),
-        None => {
-            let list = |from: usize, count: i64| numbers[from..from + 2 * count as usize].to_vec();
-            Ok(ReadMove {
-                a: list(7, numbers[5]),
-                b: list(39, numbers[6]),
-                velocity_a: (numbers[1], numbers[2]),
-                velocity_b: (numbers[3], numbers[4]),
-                limit: numbers[0],
-            })
-        }
+        None => Ok(ReadMove::of_numbers(&numbers)),
+    }
+}
+
+/// The number and the move of a line of a log, which stands without its 0a. Whether it is in order is not looked at.
+pub fn read_log(line: &[u8]) -> Result<(u16, ReadMove), Refusal> {
+    let (mut number, mut numbers) = (0, [0; NUMBERS]);
+    match read_log_into(line, &mut number, &mut numbers) {
+        Some(refusal) => Err(refusal),
+        None => Ok((number, ReadMove::of_numbers(&numbers))),
     }
 }
 
@@ -326,6 +391,46 @@ pub fn read_move_into(line: &[u8], numbers: &mut [i64; NUMBERS]) -> Option<Refus
     Refusal::returned(unsafe {
         stonefruitle_read_move(line.as_ptr(), line.len(), numbers.as_mut_ptr())
     })
+}
+
+/// The number of a line of a log and its move as 71 numbers, likewise; the number is zero too where the line is refused.
+pub fn read_log_into(
+    line: &[u8],
+    number: &mut u16,
+    numbers: &mut [i64; NUMBERS],
+) -> Option<Refusal> {
+    Refusal::returned(unsafe {
+        stonefruitle_read_log(line.as_ptr(), line.len(), number, numbers.as_mut_ptr())
+    })
+}
+
+/// The answer line to a line of a log, into a lent buffer. `Room` writes nothing; the other refusals write the refusal
+/// line. Any refusal leaves what is kept as it is.
+pub fn log_step_into(kept: Kept, line: &[u8], out: &mut [u8]) -> LogWritten {
+    let (mut some, mut number, mut lost, mut bytes) = (false, 0, 0, 0);
+    // As below; besides, the library writes the four places.
+    let refusal = unsafe {
+        stonefruitle_log_step(
+            kept.is_some(),
+            kept.unwrap_or(0),
+            line.as_ptr(),
+            line.len(),
+            out.as_mut_ptr(),
+            out.len(),
+            &mut some,
+            &mut number,
+            &mut lost,
+            &mut bytes,
+        )
+    };
+    LogWritten {
+        written: Written {
+            refusal: Refusal::returned(refusal),
+            bytes,
+        },
+        kept: some.then_some(number),
+        lost,
+    }
 }
 
 /// The answer line to a move line, into a lent buffer. `Room` writes nothing; the other refusals write the refusal line.

@@ -1,4 +1,4 @@
-//! Tests of the linked library through `stonefruitle.rs`: the paper's twelve cases, many moves compared with the
+//! Tests of the linked library through `stonefruitle.rs`: the paper's twelve cases, many moves and logs compared with the
 //! independent program, and the lent bytes that must stay. `tests/linked` builds and runs them.
 
 #[allow(dead_code)]
@@ -10,13 +10,24 @@ mod frame;
 #[allow(dead_code)]
 #[path = "../../independent/src/generate.rs"]
 mod generate;
+#[allow(dead_code)]
+#[path = "../../independent/src/log.rs"]
+mod log;
+#[allow(dead_code)]
+#[path = "../../independent/src/runs.rs"]
+mod runs;
 
 use checker::{is_sound, point, verdict, Point, Verdict};
 use generate::{Rng, Set, AT_ZERO, BASE};
+use runs::{Log, LOG};
 use stonefruitle::*;
 
 const SEED: u64 = 20_261;
 const COUNT: u64 = 50_000;
+
+/// So many logs, and so many lines of each.
+const LOGS: u64 = 2_000;
+const LINES: usize = 50;
 
 /// What lent bytes hold beforehand. No line has such a byte.
 const BEFORE: u8 = 0xa5;
@@ -614,6 +625,222 @@ fn change(rng: &mut Rng, m: &mut Lists) {
 }
 
 // ---------------------------------------------------------------------------
+// Logs
+
+fn log_lines() -> Vec<&'static [u8]> {
+    include_bytes!("../../examples/log.txt")
+        .split(|b| *b == b'\n')
+        .filter(|l| !l.is_empty())
+        .collect()
+}
+
+/// One step after any number, with all that it leaves, and with too little room.
+fn check_step(what: &str, kept: Kept, line: &[u8], extra: usize) -> log::Step {
+    let expected = log::step(kept, line);
+    let refusal = expected.answer.err().unwrap_or(0);
+
+    let mut out = vec![BEFORE; ANSWER_ROOM + extra];
+    let step = log_step_into(kept, line, &mut out);
+    let written = frame::write_answer(&expected.answer);
+    assert_answered(what, step.written, &out, &written, refusal);
+    assert_eq!(
+        (step.kept, step.lost),
+        (expected.kept, expected.lost),
+        "{what}"
+    );
+
+    let room = extra.min(ANSWER_ROOM - 1);
+    let mut out = vec![BEFORE; room];
+    let step = log_step_into(kept, line, &mut out);
+    assert_nothing_written(what, step.written, &out, 1);
+    assert_eq!((step.kept, step.lost), (kept, 0), "{what}");
+
+    let step = log_step(kept, line);
+    assert_eq!(number(step.answer), refusal, "{what}");
+    assert_eq!(
+        (step.kept, step.lost),
+        (expected.kept, expected.lost),
+        "{what}"
+    );
+    expected
+}
+
+/// The reader of log lines, which asks nothing of the order; and the bare line in a log line.
+fn check_read_log(what: &str, line: &[u8]) -> Option<u16> {
+    let expected = log::read_log(line);
+    let refusal = expected.as_ref().err().copied().unwrap_or(0);
+    let (mut number, mut numbers) = (0xa5a5, [i64::MIN; NUMBERS]);
+    let returned = read_log_into(line, &mut number, &mut numbers);
+    assert_eq!(returned.map_or(0, Refusal::number), refusal, "{what}");
+    let moved = expected.as_ref().map(|(_, m)| m.clone()).map_err(|r| *r);
+    assert_eq!(numbers, expected_numbers(&moved), "{what}");
+    assert_eq!(number, expected.as_ref().map_or(0, |(n, _)| *n), "{what}");
+
+    match (read_log(line), expected) {
+        (Ok((number, read)), Ok((expected, m))) => {
+            assert_eq!(number, expected, "{what}");
+            assert_eq!(read.as_move(), Lists::of(&m).asked(), "{what}");
+            // Demand 2's one line: byte 03, the number and the frame that the move is written as.
+            let frame = write_move(&read.as_move()).expect("what was read can be written");
+            let written = [format!("03{number:04x}").as_bytes(), &frame].concat();
+            assert_eq!(shown(&written), shown(line) + "\n", "{what}");
+            Some(number)
+        }
+        (Err(given), Err(refusal)) => {
+            assert_eq!(given.number(), refusal, "{what}");
+            None
+        }
+        _ => panic!("{what}: one reads it and one does not"),
+    }
+}
+
+/// Random logs. Each line is asked after the lines before it, and where it has a number, also after those from which it is
+/// next, farthest forward, and out of order.
+#[test]
+fn random_logs() {
+    let mut counts = [0u64; 11];
+    let mut lost = 0;
+    for run in 0..LOGS {
+        let mut kept = None;
+        for (place, (class, line)) in Log::new(SEED + run, LOG).take(LINES).enumerate() {
+            let extra = (place + run as usize) % 60;
+            let what = format!("seed {}, place {place}, {class:?}", SEED + run);
+            let what = format!("{what}, after {kept:?}: {}", shown(&line));
+            let expected = check_step(&what, kept, &line, extra);
+            counts[expected.answer.err().unwrap_or(0) as usize] += 1;
+            lost += u64::from(expected.lost);
+            assert_eq!(number(read_line(&line)), number_of(&line), "{what}");
+
+            if let Some(number) = check_read_log(&what, &line) {
+                for by in [0, 1, 2, 32_767, 32_768, 65_535] {
+                    check_step(&what, Some(number.wrapping_sub(by)), &line, extra);
+                }
+                let after_none = check_step(&what, None, &line, extra);
+                assert_eq!(after_none.answer, frame::answer(&line[6..]), "{what}");
+                let bare = answer_line(&line[6..]);
+                assert_eq!(log_step(None, &line).answer, bare, "{what}");
+            }
+            kept = expected.kept;
+        }
+    }
+    println!("random logs by refusal: {counts:?}, {lost} lines lost");
+    assert!(
+        counts[0] > 0 && counts[2..].iter().all(|n| *n > 0),
+        "a refusal did not come up: {counts:?}"
+    );
+}
+
+/// What a bare line is refused with.
+fn number_of(line: &[u8]) -> u8 {
+    frame::answer(line).err().unwrap_or(0)
+}
+
+/// The stored log, with each room for an answer that is too little.
+#[test]
+fn the_stored_log() {
+    let answers: Vec<&str> = include_str!("../../examples/log-answers.txt")
+        .lines()
+        .collect();
+    let (mut kept, mut lost) = (None, 0);
+    for (line, answer) in log_lines().iter().zip(&answers) {
+        for room in 0..ANSWER_ROOM {
+            let expected = check_step(&shown(line), kept, line, room);
+            let written = frame::write_answer(&expected.answer);
+            assert_eq!(shown(&written), *answer);
+        }
+        let step = log_step(kept, line);
+        kept = step.kept;
+        lost += u32::from(step.lost);
+    }
+    assert_eq!((log_lines().len(), answers.len()), (23, 23));
+    assert_eq!((kept, lost), (Some(0x8004), 32_769));
+}
+
+/// Every number after every one of some: forward, or out of order.
+#[test]
+fn every_difference() {
+    let lines: Vec<Vec<u8>> = (0..=65_535)
+        .map(|number| [format!("03{number:04x}").as_bytes(), move_lines()[2]].concat())
+        .collect();
+    for kept in [0u16, 1, 32_767, 32_768, 65_535] {
+        for (number, line) in lines.iter().enumerate() {
+            let step = log_step(Some(kept), line);
+            // From the kept number up, round the rollover.
+            let difference = (number + 65_536 - usize::from(kept)) % 65_536;
+            let expected = match difference {
+                1..=32_767 => (0, Some(number as u16), difference as u16 - 1),
+                _ => (10, Some(kept), 0),
+            };
+            let given = (crate::number(step.answer), step.kept, step.lost);
+            assert_eq!(given, expected, "{number} after {kept}");
+        }
+    }
+}
+
+extern "C" {
+    /// As `stonefruitle.rs` has it.
+    fn stonefruitle_log_step(
+        kept_some: bool,
+        kept_number: u16,
+        line: *const u8,
+        line_length: usize,
+        out: *mut u8,
+        out_length: usize,
+        kept_some_after: *mut bool,
+        kept_number_after: *mut u16,
+        lost: *mut u16,
+        written: *mut usize,
+    ) -> u8;
+}
+
+/// What C can hand in and the wrapper does not: a number beside "none is kept". It is not looked at and not handed on.
+#[test]
+fn a_number_that_is_not_kept() {
+    let mut kept = 1u16;
+    for line in log_lines() {
+        for room in [ANSWER_ROOM - 1, ANSWER_ROOM] {
+            kept = kept.wrapping_mul(31_421).wrapping_add(6_927);
+            let expected = log::step(None, line);
+            let mut out = [BEFORE; ANSWER_ROOM];
+            let (mut some, mut number, mut lost, mut written) = (true, 0xa5a5, 0xa5a5, 77);
+            let refusal = unsafe {
+                stonefruitle_log_step(
+                    false,
+                    kept,
+                    line.as_ptr(),
+                    line.len(),
+                    out.as_mut_ptr(),
+                    room,
+                    &mut some,
+                    &mut number,
+                    &mut lost,
+                    &mut written,
+                )
+            };
+            let after = match room {
+                ANSWER_ROOM => expected.kept,
+                _ => None,
+            };
+            let what = shown(line);
+            assert_eq!(
+                (some, number),
+                (after.is_some(), after.unwrap_or(0)),
+                "{what}"
+            );
+            assert_eq!(lost, 0, "{what}");
+            if room < ANSWER_ROOM {
+                assert_eq!((refusal, written), (1, 0), "{what}");
+                assert_eq!(out, [BEFORE; ANSWER_ROOM], "{what}");
+            } else {
+                assert_eq!(refusal, expected.answer.err().unwrap_or(0), "{what}");
+                let line = [frame::write_answer(&expected.answer), b"\n".to_vec()].concat();
+                assert_eq!(shown(&out[..written]), shown(&line), "{what}");
+            }
+        }
+    }
+}
+
+// ---------------------------------------------------------------------------
 // Room
 
 /// Refusal 1 comes before every other and writes nothing; with the least room a call writes.
@@ -664,12 +891,14 @@ fn empty_lists() {
     assert_eq!(answer_line(&[]), Err(Refusal::Digits));
     assert_eq!(read_line(&[]), Err(Refusal::Digits));
     assert_eq!(read_move(&[]), Err(Refusal::Digits));
+    assert_eq!(read_log(&[]), Err(Refusal::Digits));
+    assert_eq!(log_step(Some(7), &[]).answer, Err(Refusal::Digits));
 }
 
 #[test]
 fn other_lines_are_no_answers() {
     let lines = [
-        "", "81", "8100", "810001 ", "8102", "81ff00", "81ff0a", "820001", "81000101",
+        "", "81", "8100", "810001 ", "8102", "81ff00", "81ff0b", "820001", "81000101",
     ];
     for line in lines {
         assert_eq!(Answer::of_line(line.as_bytes()), None, "{line}");
