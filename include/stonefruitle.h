@@ -22,9 +22,11 @@
  *
  * What a call costs, as tests/costs measures it:
  *
- * Stack    under 5 KB. Measured by painting a stack before the call: 4.1 KB for
- *          stonefruitle_read_move, 3.9 for stonefruitle_write_move, 3.1 for the
- *          two that answer, less for the others.
+ * Stack    under 6 KB. Measured by painting a stack before the call: 5.4 KB for
+ *          stonefruitle_log_step, 5.3 for stonefruitle_read_log, 5.1 for
+ *          stonefruitle_read_move, 4.0 for stonefruitle_answer_line, 3.9 for
+ *          stonefruitle_write_move and stonefruitle_read_line, less for the
+ *          others.
  * Time     bounded, whatever is handed in. A longer line or list is refused
  *          unread. Each outline's 16 corners at most are tried against its 16
  *          edges. At most 32 sides are worked, each with 32 products for the

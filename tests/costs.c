@@ -18,7 +18,7 @@
 #include <stonefruitle.h>
 
 /* MOST_STACK is what include/stonefruitle.h says that a call takes at most. */
-enum { MOST_STACK = 5120, STACK = 1 << 18, PAINT = 0xa5, CORNERS = 16, CALLS = 20 };
+enum { MOST_STACK = 6144, STACK = 1 << 18, PAINT = 0xa5, CORNERS = 16, CALLS = 20 };
 
 static uint8_t stack[STACK];
 static const char head[] = "030001"; /* what makes a line of a log of it */
