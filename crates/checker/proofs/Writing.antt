@@ -1,6 +1,7 @@
 -- What is written of an answer and of a move, by the outcome of the tests: room for the line, and a move that is not refused.
 use mathlib.Core.Path.{_≡_, sym, ap, subst, _∙_}
 use mathlib.Core.Logic.{_≢_}
+use mathlib.Core.Bool.{true, false}
 use mathlib.Core.List.{List}
 use Prim.Native.Nat.{ℕ, _≤_, _<_}
 use native.Mathlib.Omega.{arith}
@@ -12,7 +13,10 @@ use Rattle.plane.specs.declared.Corner.{Corner}
 use Rattle.outline.proofs.Ranges.{counted-yes}
 use Rattle.moves.specs.Move.{moveOfLists}
 use Rattle.moves.specs.HeldMove.{Fit, moveHeld, heldMove}
-use Rattle.moves.specs.Refusal.{refusalOfLists}
+use Rattle.moves.specs.Refusal.{refusalOfLists, carried}
+use Rattle.outline.specs.Refusal.{isNone}
+use Rattle.outline.specs.declared.Refusal.the-variants.{None, Plain}
+use Rattle.moves.proofs.Carrying.{carried-zero, carried-some}
 use Rattle.moves.specs.Reading.{readingOfLists}
 use Rattle.verdict.specs.declared.Answer.{Answer}
 use Rattle.moves.specs.declared.Reading.{Reading}
@@ -28,7 +32,7 @@ use Rattle.checker.specs.Entries.{spoken, spokenOut, writtenMove, writte
 
 -- ---- an answer
 module _ (r : Answer) (out : List ℕ) where
-  pub spoken-narrow : length out < 45 → (wrote 1 0 ≡ spoken r (length out)) × (out ≡ spokenOut r out)
+  pub spoken-narrow : length out < 45 → (wrote (Plain 1) 0 ≡ spoken r (length out)) × (out ≡ spokenOut r out)
   unfolding spoken spokenOut
   spoken-narrow h = let t = lt-ltb (length out) 45 h in (sym (rw t), sym (rw t))
 
@@ -49,27 +53,30 @@ module _ (kept : Kept) (l : List ℕ) (room : ℕ) where
 -- ---- a move handed in as lists
 module _ (xs ys : List ℤ) (va vb : Corner) (T : ℤ) where
   module _ (out : List ℕ) where
-    pub move-narrow : length out < 283 → (wrote 1 0 ≡ writtenMove xs ys va vb T (length out)) × (out ≡ writtenMoveOut xs ys va vb T out)
+    pub move-narrow : length out < 283 → (wrote (Plain 1) 0 ≡ writtenMove xs ys va vb T (length out)) × (out ≡ writtenMoveOut xs ys va vb T out)
     unfolding writtenMove writtenMoveOut
     move-narrow h = let t = lt-ltb (length out) 283 h in (sym (rw t), sym (rw t))
 
     pub move-refused : 283 ≤ length out → refusalOfLists xs ys va vb T ≢ 0 →
-        (wrote (refusalOfLists xs ys va vb T) 0 ≡ writtenMove xs ys va vb T (length out)) × (out ≡ writtenMoveOut xs ys va vb T out)
+        (wrote (carried (refusalOfLists xs ys va vb T) (moveOfLists xs ys va vb T)) 0 ≡ writtenMove xs ys va vb T (length out)) × (out ≡ writtenMoveOut xs ys va vb T out)
     unfolding writtenMove writtenMoveOut
     move-refused h n = let t = le-ltb (length out) 283 h in let u = ne-eqb (refusalOfLists xs ys va vb T) 0 n in (sym (rw (t, u)), sym (rw (t, u)))
 
     pub move-written : 283 ≤ length out → refusalOfLists xs ys va vb T ≡ 0 →
-        (wrote 0 (length (moveLine (moveOfLists xs ys va vb T))) ≡ writtenMove xs ys va vb T (length out)) × (over (moveLine (moveOfLists xs ys va vb T)) out ≡ writtenMoveOut xs ys va vb T out)
+        (wrote None (length (moveLine (moveOfLists xs ys va vb T))) ≡ writtenMove xs ys va vb T (length out)) × (over (moveLine (moveOfLists xs ys va vb T)) out ≡ writtenMoveOut xs ys va vb T out)
     unfolding writtenMove writtenMoveOut
     move-written h e = let t = le-ltb (length out) 283 h in let u = eq-eqb (refusalOfLists xs ys va vb T) 0 e in (sym (rw (t, u)), sym (rw (t, u)))
 
   module _ (r : Reading) (is : r ≡ readingOfLists xs ys va vb T) where
-    pub read-refusal : r .refusal ≡ refusalOfLists xs ys va vb T
+    pub read-refusal : r .refusal ≡ carried (refusalOfLists xs ys va vb T) (moveOfLists xs ys va vb T)
     read-refusal = ap (λ x. x .refusal) is ∙ reading-refusal (refusalOfLists xs ys va vb T) (moveOfLists xs ys va vb T)
 
-    module _ (none : r .refusal ≡ 0) where
-      lists-none : refusalOfLists xs ys va vb T ≡ 0
-      lists-none = sym read-refusal ∙ none
+    pub read-some : isNone (r .refusal) ≡ false → refusalOfLists xs ys va vb T ≢ 0
+    read-some some = carried-some (moveOfLists xs ys va vb T) (refusalOfLists xs ys va vb T) (ap isNone (sym read-refusal) ∙ some)
+
+    module _ (none : isNone (r .refusal) ≡ true) where
+      pub lists-none : refusalOfLists xs ys va vb T ≡ 0
+      lists-none = carried-zero (moveOfLists xs ys va vb T) (refusalOfLists xs ys va vb T) (ap isNone (sym read-refusal) ∙ none)
 
       held-is : r .held ≡ heldMove (moveOfLists xs ys va vb T)
       held-is = ap (λ x. x .held) (is ∙ reading-none _ (moveOfLists xs ys va vb T) lists-none)

@@ -17,7 +17,8 @@ use lib.ListN.{length}
 use Rattle.whole.specs.Padded.{over}
 use Rattle.plane.specs.declared.Corner.{Corner}
 use Rattle.moves.specs.Move.{moveOfLists}
-use Rattle.moves.specs.Refusal.{refusalOfLists}
+use Rattle.moves.specs.Refusal.{refusalOfLists, carried}
+use Rattle.outline.specs.declared.Refusal.the-variants.{None, Plain}
 use Rattle.verdict.specs.declared.Answer.{Answer}
 use Rattle.moveline.specs.MoveFrame.{moveLine}
 use Rattle.frame.specs.AnswerFrame.{answerLine}
@@ -28,15 +29,15 @@ use Rattle.log.specs.declared.Kept.{Kept}
 use Rattle.log.specs.declared.Step.{Step}
 
 unfoldable pub spoken : Answer → ℕ → Written
-spoken r room = cond (ltb room 45) (wrote 1 0) (wrote (refusalIn r) (length (answerLine r)))
+spoken r room = cond (ltb room 45) (wrote (Plain 1) 0) (wrote (refusalIn r) (length (answerLine r)))
 
 unfoldable pub spokenOut : Answer → List ℕ → List ℕ
 spokenOut r out = cond (ltb (length out) 45) out (over (answerLine r) out)
 
 unfoldable pub writtenMove : List ℤ → List ℤ → Corner → Corner → ℤ → ℕ → Written
 writtenMove xs ys va vb T room =
-    cond (ltb room 283) (wrote 1 0)
-    (cond (eqb (refusalOfLists xs ys va vb T) 0) (wrote 0 (length (moveLine (moveOfLists xs ys va vb T)))) (wrote (refusalOfLists xs ys va vb T) 0))
+    cond (ltb room 283) (wrote (Plain 1) 0)
+    (cond (eqb (refusalOfLists xs ys va vb T) 0) (wrote None (length (moveLine (moveOfLists xs ys va vb T)))) (wrote (carried (refusalOfLists xs ys va vb T) (moveOfLists xs ys va vb T)) 0))
 
 unfoldable pub writtenMoveOut : List ℤ → List ℤ → Corner → Corner → ℤ → List ℕ → List ℕ
 writtenMoveOut xs ys va vb T out = cond (ltb (length out) 283) out (cond (eqb (refusalOfLists xs ys va vb T) 0) (over (moveLine (moveOfLists xs ys va vb T)) out) out)

@@ -1,5 +1,6 @@
-// The checker's entry points. Each tests its own input; each refusal has one number, 0 stands for none.
+// The checker's entry points. Each tests its own input; each refusal has one number, and 8 and 9 carry the edge that is wrong.
 ghost use mathlib.Core.Path.{_≡_};
+ghost use Rattle.outline.specs.declared.Refusal.the-variants.{Plain};
 ghost use Rattle.verdict.specs.Answer.{answerOfLists};
 ghost use Rattle.moveline.specs.Reading.{readingOfLine};
 ghost use Rattle.frame.specs.AnswerOfLine.{answerOfLine};
@@ -11,6 +12,7 @@ use log::Entry;
 use log::Kept;
 use log::Step;
 use moves::Reading;
+use outline::Refusal;
 use plane::Corner;
 
 // The longest answer line and the longest move line, with their 0a.
@@ -20,16 +22,16 @@ const MOVE_ROOM: usize = 283;
 
 // Refusal 1: too few bytes are lent, and none is written.
 fn no_room() -> Written
-    ensures { λ w. ⌜ w ≡ wrote 1 0 ⌝ }
+    ensures { λ w. ⌜ w ≡ wrote (Plain 1) 0 ⌝ }
 {
     Written {
-        refusal: 1,
+        refusal: Refusal::Plain(1),
         bytes: 0,
     }
 }
 
 // The answer to a line, which stands without its 0a, into `out`. Refusal 1 (fewer than 45 bytes lent) writes nothing;
-// 2 to 9 write the refusal line in the first 7 bytes. The bytes after a written line stay.
+// 2 to 9 write the refusal line in the first 7 bytes, 8 and 9 in the first 9. The bytes after a written line stay.
 pub fn answer_line(line: &[u8], out: &mut [u8]) -> Written
     ensures { λ w. ⌜ Speaks (answerOfLine (now (line .entry))) w (now (out .entry)) (now (out .exit)) ⌝ }
 {
@@ -71,9 +73,10 @@ pub fn write_move(
         return no_room();
     }
     let r = moves::lists::read_lists(a, b, va, vb, limit);
-    if r.refusal != 0 {
+    let why = r.refusal;
+    if !outline::is_none(why) {
         return Written {
-            refusal: r.refusal,
+            refusal: why,
             bytes: 0,
         };
     }
@@ -81,7 +84,7 @@ pub fn write_move(
     let f = moveline::writer::move_frame(m);
     let n = hex::text::put_line(out, f);
     Written {
-        refusal: 0,
+        refusal: Refusal::None,
         bytes: n,
     }
 }
@@ -94,7 +97,7 @@ pub fn read_line(line: &[u8]) -> Reading
 }
 
 // One step along a log: the answer to a log line, which stands without its 0a, into `out`. Refusal 1 (fewer than 45 bytes lent) writes nothing;
-// 2 to 10 write the refusal line in the first 7 bytes. A refused line leaves the kept number and loses none.
+// 2 to 10 write the refusal line in the first 7 bytes, 8 and 9 in the first 9. A refused line leaves the kept number and loses none.
 pub fn log_step(kept: Kept, line: &[u8], out: &mut [u8]) -> Step
     ensures { λ s. ⌜ StepsAlong kept (now (line .entry)) s (now (out .entry)) (now (out .exit)) ⌝ }
 {

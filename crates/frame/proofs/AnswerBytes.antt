@@ -4,6 +4,9 @@ use mathlib.Core.List.{flatMap}
 use Prim.Native.Nat.{_≤_}
 use native.Mathlib.Omega.{arith}
 use lib.ListN.{length}
+use Rattle.outline.specs.Refusal.{valuesIn}
+use Rattle.outline.specs.declared.Refusal.{Refusal}
+use Rattle.outline.specs.declared.Refusal.the-variants.{None, Plain, AtEdge}
 use Rattle.verdict.specs.Answer.{showingNumbers}
 use Rattle.showing.specs.declared.Showing.{Showing}
 use Rattle.showing.specs.declared.Showing.the-variants.{CornerOfA, CornerOfB, Edges}
@@ -16,9 +19,14 @@ three-numbers (CornerOfA i) = refl
 three-numbers (CornerOfB j) = refl
 three-numbers (Edges i j) = refl
 
+pub two-values : (r : Refusal) → length (valuesIn r) ≤ 2
+two-values None = omega arith
+two-values (Plain n) = omega arith
+two-values (AtEdge n e) = omega arith
+
 pub length-answer : (r : Answer) → length (answerFrame r) ≤ 22
 unfolding answerFrame flatMap
 length-answer (ClearByOne k) = omega arith
 length-answer (ClearByTwo i j) = omega arith
 length-answer (Contact e) = omega (arith, three-numbers (e .showing))
-length-answer (Refused r) = omega arith
+length-answer (Refused r) = omega (arith, two-values r)

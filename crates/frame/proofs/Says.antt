@@ -22,6 +22,8 @@ use Rattle.span.proofs.Outcomes.{outcome-by, Timed, outcome-timed}
 use Rattle.plane.specs.Edges.{corner}
 use Rattle.plane.specs.Inside.{inside}
 use Rattle.plane.specs.declared.Corner.{Corner}
+use Rattle.outline.specs.Refusal.{isNone}
+use Rattle.outline.proofs.Reasons.{none-yes}
 use Rattle.moves.specs.Move.{Move, moveOfLists}
 use Rattle.moves.specs.HeldMove.{Fit, moveHeld, heldMove}
 use Rattle.plane.specs.Interval.{touches}
@@ -30,7 +32,7 @@ use Rattle.verdict.specs.Span.{spans}
 use Rattle.showing.specs.Showing.{cornerInside, meetingPair, showingOf, showing}
 use Rattle.verdict.specs.Verdict.{touchingSide, verdictFrom, verdict}
 use Rattle.moves.specs.Refusal.{refusal, refusalOfLists}
-use Rattle.verdict.specs.Answer.{answerUnless, answerOfLists}
+use Rattle.verdict.specs.Answer.{answerUnless, answerBy, answerOfLists}
 use Rattle.moves.specs.Reading.{Readable}
 use Rattle.moves.specs.declared.HeldMove.{HeldMove}
 use Rattle.moves.specs.declared.Reading.{Reading}
@@ -98,9 +100,8 @@ module _ (h : HeldMove) (f : Fit h) where
       (outcome-timed (natAbs (h .limit)) l (spans-some h f) (spans-made h f))
 
 -- ---- the answers
-pub sayable-reading : (r : Reading) → Readable r → Sayable (answerUnless (r .refusal) (moveHeld (r .held)))
-unfolding answerUnless
-sayable-reading r ok = cond-by Sayable (eqb (r .refusal) 0) _ _ (λ e. sayable-verdict (r .held) (ok (eqb-true (r .refusal) 0 e))) (λ e. tt)
+pub sayable-reading : (r : Reading) → Readable r → Sayable (answerBy (r .refusal) (moveHeld (r .held)))
+sayable-reading r ok = cond-by Sayable (isNone (r .refusal)) _ _ (λ e. sayable-verdict (r .held) (ok (none-yes (r .refusal) e))) (λ e. tt)
 
 sayable-accepted : (m : Move) → refusal m ≡ 0 → Sayable (verdict m)
 sayable-accepted m e = let h = held-accepted m e in subst (λ x. Sayable (verdict x)) (h .1) (sayable-verdict (heldMove m) (h .0))

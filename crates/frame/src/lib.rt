@@ -4,7 +4,7 @@ ghost use Prim.Native.Nat.{_≤_};
 ghost use lib.ListN.{length};
 ghost use Rattle.moves.specs.HeldMove.{moveHeld};
 ghost use Rattle.moves.specs.Reading.{Readable};
-ghost use Rattle.verdict.specs.Answer.{answerUnless, answerOfLists};
+ghost use Rattle.verdict.specs.Answer.{answerBy, answerOfLists};
 ghost use Rattle.frame.specs.AnswerOfLine.{answerOfLine};
 ghost use Rattle.frame.specs.Said.{refusalIn, Says};
 ghost use Rattle.frame.specs.Sayable.{Sayable};
@@ -12,12 +12,13 @@ ghost use Rattle.frame.specs.Sayable.{Sayable};
 mod writer; // frames of answers
 
 use moves::Reading;
+use outline::Refusal;
 use plane::Corner;
 use verdict::Answer;
 
-// What a call that writes a line answers: the number of its refusal, 0 for none, and how many bytes it wrote.
+// What a call that writes a line answers: its refusal, and how many bytes it wrote.
 pub struct Written {
-    pub refusal: u8,
+    pub refusal: Refusal,
     pub bytes: usize,
 }
 
@@ -29,15 +30,15 @@ pub fn answer_of_line(line: &[u8]) -> Answer
     verdict::answer_of(r)
 }
 
-// The number of an answer's refusal.
-fn refusal_of(r: Answer) -> u8
+// The refusal in an answer.
+fn refusal_of(r: Answer) -> Refusal
     ensures { λ n. ⌜ n ≡ refusalIn r ⌝ }
 {
     match r {
-        Answer::ClearByOne(_) => 0,
-        Answer::ClearByTwo(_, _) => 0,
-        Answer::Contact(_) => 0,
-        Answer::Refused(n) => n,
+        Answer::ClearByOne(_) => Refusal::None,
+        Answer::ClearByTwo(_, _) => Refusal::None,
+        Answer::Contact(_) => Refusal::None,
+        Answer::Refused(why) => why,
     }
 }
 
@@ -57,7 +58,7 @@ fn put_answer(r: Answer, out: &mut [u8]) -> Written
 // Writes the answer line of a move that was read at the start of `out`; the bytes after it stay.
 pub fn put_answer_of(r: Reading, out: &mut [u8]) -> Written
     requires { ⌜ Readable r × (45 ≤ length (now out)) ⌝ }
-    ensures { λ w. ⌜ Says (answerUnless (r .refusal) (moveHeld (r .held))) w (now (out .entry)) (now (out .exit)) ⌝ }
+    ensures { λ w. ⌜ Says (answerBy (r .refusal) (moveHeld (r .held))) w (now (out .entry)) (now (out .exit)) ⌝ }
 {
     let x = verdict::answer_of(r);
     put_answer(x, out)

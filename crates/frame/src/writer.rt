@@ -3,6 +3,7 @@ ghost use mathlib.Core.Path.{_≡_};
 ghost use mathlib.Core.List.{_∷_, _++_};
 ghost use Prim.Native.Nat.{_+_, _≤_};
 ghost use Rattle.whole.specs.Time.{Short};
+ghost use Rattle.outline.specs.Refusal.{valuesIn};
 ghost use Rattle.verdict.specs.Answer.{bearingNumber, showingNumbers};
 ghost use Rattle.hex.specs.Bytes.{bytes4};
 ghost use Rattle.hex.specs.Frame.{framed, frameBytes, Whole};
@@ -10,6 +11,7 @@ ghost use Rattle.frame.specs.AnswerFrame.{answerFrame};
 ghost use Rattle.frame.specs.Sayable.{Sayable, SayableBearing, SayableShowing};
 use hex::Frame;
 use hex::frames;
+use outline::Refusal;
 use showing::Showing;
 use verdict::Answer;
 use verdict::Bearing;
@@ -55,6 +57,21 @@ fn push_showing(f: Frame, s: Showing) -> Frame
     }
 }
 
+// The frame f with the number of a refusal and the edge that it carries more.
+fn push_refusal(f: Frame, r: Refusal) -> Frame
+    requires { ⌜ Whole f × (f .count + 2 ≤ 141) ⌝ }
+    ensures { λ g. ⌜ g ≡ framed (frameBytes f ++ valuesIn r) ⌝ }
+{
+    match r {
+        Refusal::None => f,
+        Refusal::Plain(n) => frames::push(f, n),
+        Refusal::AtEdge(n, edge) => {
+            let g = frames::push(f, n);
+            frames::push(g, edge)
+        }
+    }
+}
+
 // The frame of an answer.
 pub fn answer_frame(r: Answer) -> Frame
     requires { ⌜ Sayable r ⌝ }
@@ -72,6 +89,10 @@ pub fn answer_frame(r: Answer) -> Frame
             let g = frames::push(f, 2);
             push_evidence(g, e)
         }
-        Answer::Refused(n) => frames::push3(empty, 0x81, 0xff, n),
+        Answer::Refused(why) => {
+            let f = frames::push(empty, 0x81);
+            let g = frames::push(f, 0xff);
+            push_refusal(g, why)
+        }
     }
 }

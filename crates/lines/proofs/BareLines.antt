@@ -1,4 +1,4 @@
--- Bare lines as a step. A line of more than 282 bytes is refused. A refusal has seven bytes, any answer at most 45, and a line with another answer than a refusal has at least 74 bytes, so an answer has at most seven bytes for each byte of its line and its 0a. As nothing is kept, the answers are those of the lines one by one.
+-- Bare lines as a step. A line of more than 282 bytes is refused. A refusal has seven or nine bytes, that of an empty line seven, any answer at most 45, and a line with another answer than a refusal has at least 74 bytes, so an answer has at most seven bytes for each byte of its line and its 0a. As nothing is kept, the answers are those of the lines one by one.
 use mathlib.Core.Path.{_≡_, refl, sym, _∙_, ap}
 use mathlib.Core.Bool.{Bool, true, false, _&&_}
 use mathlib.Core.List.{List, [], _∷_, _++_, flatMap}
@@ -7,7 +7,10 @@ use native.Mathlib.Decide.{ℕ-discrete}
 use native.Mathlib.Omega.{arith}
 use lib.ListN.{length, length-append}
 use borrow.Author.Tests.{ne-eqb, lt-leb}
-use Rattle.outline.specs.Refusal.{firstThatApplies}
+use Rattle.outline.specs.Refusal.{firstThatApplies, carriedBy}
+use Rattle.outline.specs.declared.Refusal.{Refusal}
+use Rattle.outline.specs.declared.Refusal.the-variants.{Plain}
+use Rattle.moves.specs.Refusal.{carried}
 use Rattle.verdict.specs.Answer.{answerUnless}
 use Rattle.verdict.specs.declared.Answer.{Answer}
 use Rattle.verdict.specs.declared.Answer.the-variants.{Refused}
@@ -19,7 +22,7 @@ use Rattle.frame.specs.AnswerOfLine.{answerOfLine}
 use Rattle.hex.proofs.HexText.{hex-length}
 use Rattle.moveline.proofs.FrameMove.{moveFrame-length}
 use Rattle.moveline.proofs.RoundTrip.{written-read}
-use Rattle.frame.proofs.AnswerBytes.{length-answer}
+use Rattle.frame.proofs.AnswerBytes.{two-values, length-answer}
 use Rattle.whole.specs.Along.{along}
 use Rattle.lines.specs.Output.{answerTo}
 use Rattle.lines.specs.Steps.{answers, bare, Steady}
@@ -30,8 +33,8 @@ and-never true true = refl
 and-never true false = refl
 and-never false t = refl
 
-pub long-refused : (l : List ℕ) → 282 < length l → answerOfLine l ≡ Refused 2
-unfolding answerOfLine refusalOfLine firstThatApplies answerUnless
+pub long-refused : (l : List ℕ) → 282 < length l → answerOfLine l ≡ Refused (Plain 2)
+unfolding answerOfLine refusalOfLine firstThatApplies answerUnless carried carriedBy
 long-refused l h = simp (lt-leb (length l) 282 h, and-never)
 
 long-alike : (l m : List ℕ) → 289 ≤ length l → 289 ≤ length m → answerTo l ≡ answerTo m
@@ -42,20 +45,29 @@ pub answer-length : (r : Answer) → length (answerLine r) ≡ 2 * length (answe
 unfolding answerLine
 answer-length r = length-append (hex (answerFrame r)) (10 ∷ []) ∙ ap (λ n. n + 1) (hex-length (answerFrame r))
 
-pub refused-length : (n : ℕ) → length (answerLine (Refused n)) ≡ 7
+pub refused-length : (r : Refusal) → length (answerLine (Refused r)) ≤ 9
 unfolding answerFrame flatMap
-refused-length n = answer-length (Refused n)
+refused-length r = omega (arith, answer-length (Refused r), two-values r)
 
-refused-answer : (l : List ℕ) → ¬ (refusalOfLine l ≡ 0) → answerOfLine l ≡ Refused (refusalOfLine l)
+refused-answer : (l : List ℕ) → ¬ (refusalOfLine l ≡ 0) → answerOfLine l ≡ Refused (carried (refusalOfLine l) (moveOfLine l))
 unfolding answerOfLine answerUnless
 refused-answer l n = rw (ne-eqb (refusalOfLine l) 0 n)
+
+-- the refusal of an empty line is seven bytes long, and any other line has a byte
+pub answer-empty : length (answerTo []) ≡ 7
+unfolding answerOfLine refusalOfLine firstThatApplies answerUnless answerLine answerFrame hex flatMap carried carriedBy
+answer-empty = refl
+
+refused-room : (l : List ℕ) {r : Refusal} → answerOfLine l ≡ Refused r → length (answerTo l) ≤ 7 * (length l + 1)
+refused-room [] e = omega (arith, answer-empty)
+refused-room (c ∷ l) {r} e = omega (arith, ap (λ x. length (answerLine x)) e, refused-length r)
 
 pub answer-room : (l : List ℕ) → length (answerTo l) ≤ 7 * (length l + 1)
 answer-room l = go (ℕ-discrete (refusalOfLine l) 0)
   where
     go : Dec (refusalOfLine l ≡ 0) → length (answerTo l) ≤ 7 * (length l + 1)
     go (yes e) = omega (arith, ap length (written-read l e), hex-length (moveFrame (moveOfLine l)), moveFrame-length (moveOfLine l), answer-length (answerOfLine l), length-answer (answerOfLine l))
-    go (no n) = omega (arith, ap (λ r. length (answerLine r)) (refused-answer l n), refused-length (refusalOfLine l))
+    go (no n) = refused-room l (refused-answer l n)
 
 pub length-line : (r : Answer) → length (answerLine r) ≤ 45
 length-line r = omega (arith, answer-length r, length-answer r)

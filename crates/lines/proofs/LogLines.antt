@@ -7,12 +7,17 @@ use native.Mathlib.Decide.{ℕ-discrete}
 use native.Mathlib.Omega.{arith}
 use lib.ListN.{length, length-drop}
 use borrow.Author.Tests.{ne-eqb, lt-leb}
-use Rattle.outline.specs.Refusal.{firstThatApplies}
+use Rattle.outline.specs.Refusal.{firstThatApplies, carriedBy}
+use Rattle.outline.specs.declared.Refusal.{Refusal}
+use Rattle.outline.specs.declared.Refusal.the-variants.{Plain}
+use Rattle.moves.specs.Refusal.{carried}
+use Rattle.moves.proofs.Carrying.{carried-plain}
+use Rattle.hex.specs.Hex.{hex}
 use Rattle.verdict.specs.Answer.{answerUnless}
 use Rattle.verdict.specs.declared.Answer.the-variants.{Refused}
-use Rattle.frame.specs.AnswerFrame.{answerLine}
+use Rattle.frame.specs.AnswerFrame.{answerFrame, answerLine}
 use Rattle.whole.specs.Along.{along}
-use Rattle.log.specs.LogLine.{refusalOfLog, bareLine}
+use Rattle.log.specs.LogLine.{refusalOfLog, moveOf, bareLine}
 use Rattle.log.specs.Steps.{refusalAt, answerAt, keptAfter}
 use Rattle.log.specs.Run.{run}
 use Rattle.log.specs.declared.Kept.{Kept}
@@ -28,26 +33,36 @@ unfolding refusalOfLog firstThatApplies
 refusal-long l h = simp (lt-leb (length l) 288 h, and-never)
 
 module _ (kept : Kept) (l : List ℕ) where
-  refused-at : ¬ (refusalAt kept l ≡ 0) → answerAt kept l ≡ Refused (refusalAt kept l)
+  refused-at : ¬ (refusalAt kept l ≡ 0) → answerAt kept l ≡ Refused (carried (refusalAt kept l) (moveOf l))
   unfolding answerAt answerUnless
   refused-at n = rw (ne-eqb (refusalAt kept l) 0 n)
 
   long-at : 288 < length l → refusalAt kept l ≡ 2
   long-at h = let e = refusal-long l h in refusal-own kept l (λ z. omega arith) ∙ e
 
-  pub long-log-refused : 288 < length l → answerAt kept l ≡ Refused 2
-  long-log-refused h = let e = long-at h in refused-at (λ z. omega arith) ∙ ap Refused e
+  pub long-log-refused : 288 < length l → answerAt kept l ≡ Refused (Plain 2)
+  long-log-refused h = let e = long-at h in refused-at (λ z. omega arith) ∙ ap Refused (carried-plain (moveOf l) (refusalAt kept l) (λ z. omega arith) (λ z. omega arith) (λ z. omega arith) ∙ ap Plain e)
 
   pub long-log-kept : 288 < length l → keptAfter kept l ≡ kept
   long-log-kept h = let e = long-at h in kept-stays kept l (λ z. omega arith)
 
-  -- ---- how long an answer is
+-- ---- how long an answer is
+-- the refusal of an empty line is seven bytes long, and any other line has a byte
+empty-at : (kept : Kept) → length (logAnswerTo kept []) ≡ 7
+unfolding answerAt refusalAt firstThatApplies answerUnless answerLine answerFrame hex flatMap carried carriedBy
+empty-at kept = refl
+
+refused-log-room : (kept : Kept) (l : List ℕ) {r : Refusal} → answerAt kept l ≡ Refused r → length (logAnswerTo kept l) ≤ 7 * (length l + 1)
+refused-log-room kept [] e = omega (arith, empty-at kept)
+refused-log-room kept (c ∷ l) {r} e = omega (arith, ap (λ x. length (answerLine x)) e, refused-length r)
+
+module _ (kept : Kept) (l : List ℕ) where
   log-room : length (logAnswerTo kept l) ≤ 7 * (length l + 1)
   log-room = go (ℕ-discrete (refusalAt kept l) 0)
     where
       go : Dec (refusalAt kept l ≡ 0) → length (logAnswerTo kept l) ≤ 7 * (length l + 1)
       go (yes e) = omega (arith, ap (λ r. length (answerLine r)) (answer-bare kept l e), answer-room (bareLine l), length-drop 6 l)
-      go (no n) = omega (arith, ap (λ r. length (answerLine r)) (refused-at n), refused-length (refusalAt kept l))
+      go (no n) = refused-log-room kept l (refused-at kept l n)
 
 -- ---- so the step is steady
 pub logged-steady : Steady logged

@@ -11,12 +11,12 @@ use Rattle.plane.specs.Point.{cross, dot}
 use Rattle.plane.specs.Interval.{low, high, shares, touches}
 use Rattle.plane.specs.Inside.{inside, meet}
 use Rattle.outline.specs.Sound.{left, badEdge, isSound}
-use Rattle.outline.specs.Refusal.{firstThatApplies, counted, placed}
+use Rattle.outline.specs.Refusal.{firstThatApplies, counted, placed, carriedBy}
 use Rattle.verdict.specs.Sides.{sideOf}
 use Rattle.verdict.specs.Span.{span, spans}
 use Rattle.showing.specs.Showing.{cornerInside, edgesMeet, meetingPair, showingOf, showing}
 use Rattle.verdict.specs.Verdict.{verdict}
-use Rattle.moves.specs.Refusal.{refusal}
+use Rattle.moves.specs.Refusal.{refusal, carried}
 use Rattle.verdict.specs.Answer.{answerUnless}
 use Rattle.verdict.specs.Cases.{Case, cases}
 use Rattle.hex.specs.Hex.{character, digit, hex, unhex, digits}
@@ -29,7 +29,7 @@ use Rattle.lines.specs.Output.{output}
 use Rattle.lines.specs.Examples.{Example, text, examples}
 
 pub printed : map (λ (e : Example). output (e .given)) examples ≡ map (λ (e : Example). e .printed) examples
-unfolding lowest every best before same reduced cross dot low high shares touches inside meet left badEdge isSound firstThatApplies counted placed sideOf windowAhead windowStill window span table spans cornerInside edgesMeet meetingPair showingOf showing outcome verdict refusal answerUnless character digit hex unhex digits cornersIn moveOfFrame answerFrame answerLine refusalOfFrame refusalOfLine moveOfLine answerOfLine finished unfinished linesOf output text flatMap
+unfolding lowest every best before same reduced cross dot low high shares touches inside meet left badEdge isSound firstThatApplies counted placed sideOf windowAhead windowStill window span table spans cornerInside edgesMeet meetingPair showingOf showing outcome verdict refusal carriedBy carried answerUnless character digit hex unhex digits cornersIn moveOfFrame answerFrame answerLine refusalOfFrame refusalOfLine moveOfLine answerOfLine finished unfinished linesOf output text flatMap
 printed = refl
 
 pub given : map (λ (e : Example). e .given) examples ≡ map (λ (c : Case). moveLine (c .asked)) cases

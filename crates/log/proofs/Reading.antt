@@ -10,7 +10,10 @@ use lib.ListN.{length, getD, take, drop, length-append, length-take, length-drop
 use lib.Seq.{take-all, take-at, drop-at, getD-take, getD-drop}
 use borrow.Author.Tests.{eq-eqb, ne-eqb, lt-ltb, le-ltb}
 use Rattle.outline.specs.Refusal.{firstThatApplies}
+use Rattle.outline.specs.declared.Refusal.the-variants.{Plain}
 use Rattle.moves.specs.Move.{Move}
+use Rattle.moves.specs.Refusal.{carried}
+use Rattle.moves.proofs.Carrying.{carried-plain}
 use Rattle.moves.specs.Reading.{readingUnless}
 use Rattle.moves.proofs.Listed.{reading-none, reading-some}
 use Rattle.hex.specs.Bytes.{byteAt, number2}
@@ -26,7 +29,7 @@ use Rattle.moveline.specs.Reading.{refusalOfFrame, readingOfFrame}
 use Rattle.log.specs.LogLine.{refusalOfLog, numberOf, moveOf, refusedEntry, entryUnless, entryOf}
 
 -- ---- an entry by its refusal
-pub entry-refused : (r n : ℕ) (m : Move) → r ≢ 0 → entryUnless r n m ≡ refusedEntry r
+pub entry-refused : (r n : ℕ) (m : Move) → r ≢ 0 → entryUnless r n m ≡ refusedEntry (carried r m)
 unfolding entryUnless
 entry-refused r n m h = ap₂ (λ k x. record { number = k; reading = x }) (simp (ne-eqb r 0 h)) (reading-some r m h)
 
@@ -41,34 +44,37 @@ textual-more l h t = let short = t .short in record { some = t .some; even = t .
 pub textual-less : {most less : ℕ} (l : List ℕ) → length l ≤ less → Textual most l → Textual less l
 textual-less l h t = record { some = t .some; even = t .even; short = h; digital = t .digital }
 
-refused-by : (l : List ℕ) (r : ℕ) → refusalOfLog l ≡ r → r ≢ 0 → entryOf l ≡ refusedEntry r
-refused-by l r e n = entry-refused (refusalOfLog l) (numberOf l) (moveOf l) (λ z. n (sym e ∙ z)) ∙ ap refusedEntry e
+refused-by : (l : List ℕ) (r : ℕ) → refusalOfLog l ≡ r → r ≢ 0 → entryOf l ≡ refusedEntry (carried r (moveOf l))
+refused-by l r e n = entry-refused (refusalOfLog l) (numberOf l) (moveOf l) (λ z. n (sym e ∙ z)) ∙ ap (λ k. refusedEntry (carried k (moveOf l))) e
 
-no-text : (l : List ℕ) → ¬ Textual 288 l → entryOf l ≡ refusedEntry 2
+plainly : (l : List ℕ) (r : ℕ) → refusalOfLog l ≡ r → r ≢ 0 → r ≢ 8 → r ≢ 9 → entryOf l ≡ refusedEntry (Plain r)
+plainly l r e n a b = refused-by l r e n ∙ ap refusedEntry (carried-plain (moveOf l) r n a b)
+
+no-text : (l : List ℕ) → ¬ Textual 288 l → entryOf l ≡ refusedEntry (Plain 2)
 unfolding refusalOfLog firstThatApplies
-no-text l h = refused-by l 2 (rw (textual-no 288 l h)) (omega arith)
+no-text l h = plainly l 2 (rw (textual-no 288 l h)) (omega arith) (omega arith) (omega arith)
 
 -- ---- the first byte is not 03
-another-kind : (l : List ℕ) → Textual 288 l → byteAt (unhex l) 0 ≢ 3 → entryOf l ≡ refusedEntry 3
+another-kind : (l : List ℕ) → Textual 288 l → byteAt (unhex l) 0 ≢ 3 → entryOf l ≡ refusedEntry (Plain 3)
 unfolding refusalOfLog firstThatApplies
-another-kind l t h = refused-by l 3 (simp (textual-true 288 l t, ne-eqb _ _ h)) (omega arith)
+another-kind l t h = plainly l 3 (simp (textual-true 288 l t, ne-eqb _ _ h)) (omega arith) (omega arith) (omega arith)
 
 -- ---- no fourth byte
 module _ (l : List ℕ) (short : length l ≤ 6) where
   short-text : Textual 288 l → Textual 282 l
   short-text t = textual-less l (omega arith) t
 
-  pub short-none : ¬ Textual 282 l → entryOf l ≡ refusedEntry 2
+  pub short-none : ¬ Textual 282 l → entryOf l ≡ refusedEntry (Plain 2)
   short-none h = no-text l (λ t. h (short-text t))
 
-  pub short-kind : Textual 282 l → byteAt (unhex l) 0 ≢ 3 → entryOf l ≡ refusedEntry 3
+  pub short-kind : Textual 282 l → byteAt (unhex l) 0 ≢ 3 → entryOf l ≡ refusedEntry (Plain 3)
   short-kind t h = another-kind l (textual-more l (omega arith) t) h
 
-  pub short-refused : Textual 282 l → byteAt (unhex l) 0 ≡ 3 → entryOf l ≡ refusedEntry 4
+  pub short-refused : Textual 282 l → byteAt (unhex l) 0 ≡ 3 → entryOf l ≡ refusedEntry (Plain 4)
   unfolding refusalOfLog firstThatApplies
   short-refused t e =
       let few : length (unhex l) ≤ 3 = omega (arith, unhex-length l) in
-      refused-by l 4 (simp (textual-true 288 l (textual-more l (omega arith) t), eq-eqb _ _ e, le-ltb 3 (length (unhex l)) few, drop-of-length-le (unhex l) {i = 3} few)) (omega arith)
+      plainly l 4 (simp (textual-true 288 l (textual-more l (omega arith) t), eq-eqb _ _ e, le-ltb 3 (length (unhex l)) few, drop-of-length-le (unhex l) {i = 3} few)) (omega arith) (omega arith) (omega arith)
 
 -- ---- the first six digits, and the others
 module _ (l : List ℕ) (long : 6 < length l) where
@@ -93,10 +99,10 @@ module _ (l : List ℕ) (long : 6 < length l) where
   both-text : Textual 282 six → Textual 282 others → Textual 288 l
   both-text s t = textual-joined 6 l (omega arith) (omega arith) long s t
 
-  pub six-none : ¬ Textual 282 six → entryOf l ≡ refusedEntry 2
+  pub six-none : ¬ Textual 282 six → entryOf l ≡ refusedEntry (Plain 2)
   six-none h = no-text l (λ t. h (six-text t))
 
-  pub others-none : ¬ Textual 282 others → entryOf l ≡ refusedEntry 2
+  pub others-none : ¬ Textual 282 others → entryOf l ≡ refusedEntry (Plain 2)
   others-none h = no-text l (λ t. h (others-text t))
 
   byte-of-six : (i : ℕ) → i < 3 → byteAt (unhex l) i ≡ byteAt (unhex six) i
@@ -128,7 +134,7 @@ module _ (l : List ℕ) (long : 6 < length l) where
     unfolding numberOf
     number-read = ap₂ number2 (byte-read 1 (omega arith)) (byte-read 2 (omega arith))
 
-  pub six-kind : Textual 282 six → Textual 282 others → byteAt (unhex l) 0 ≢ 3 → entryOf l ≡ refusedEntry 3
+  pub six-kind : Textual 282 six → Textual 282 others → byteAt (unhex l) 0 ≢ 3 → entryOf l ≡ refusedEntry (Plain 3)
   six-kind s t h = another-kind l (both-text s t) h
 
   module _ (s : Textual 282 six) (o : Textual 282 others) (first : byteAt (unhex l) 0 ≡ 3) where
@@ -142,8 +148,8 @@ module _ (l : List ℕ) (long : 6 < length l) where
     unfolding refusalOfLog refusalOfFrame firstThatApplies
     refusal-of-others = simp (textual-true 288 l t, eq-eqb _ _ first, lt-ltb 3 (length (unhex l)) four, fourth, after-three)
 
-    pub others-refused : refusalOfFrame (unhex others) ≢ 0 → entryOf l ≡ refusedEntry (refusalOfFrame (unhex others))
-    others-refused n = refused-by l _ refusal-of-others n
+    pub others-refused : refusalOfFrame (unhex others) ≢ 0 → entryOf l ≡ refusedEntry (carried (refusalOfFrame (unhex others)) (moveOfFrame (unhex others)))
+    others-refused n = refused-by l _ refusal-of-others n ∙ ap (λ m. refusedEntry (carried (refusalOfFrame (unhex others)) m)) move-of-others
 
     pub others-read : refusalOfFrame (unhex others) ≡ 0 → entryOf l ≡ record { number = numberOf l; reading = readingOfFrame (unhex others) }
     unfolding entryUnless

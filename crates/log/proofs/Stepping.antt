@@ -7,13 +7,14 @@ use Prim.Native.Nat.{ℕ}
 use native.Mathlib.Decide.{ℕ-discrete}
 use native.Mathlib.Omega.{arith}
 use borrow.Author.Tests.{eq-eqb, ne-eqb}
-use Rattle.outline.specs.Refusal.{firstThatApplies}
+use Rattle.outline.specs.Refusal.{firstThatApplies, isNone}
 use Rattle.outline.proofs.Reasons.{firstThatApplies-rest, firstThatApplies-some, firstThatApplies-next}
-use Rattle.moves.specs.Refusal.{refusal}
+use Rattle.moves.specs.Refusal.{refusal, carried}
 use Rattle.moves.specs.HeldMove.{moveHeld}
-use Rattle.moves.specs.Reading.{readingUnless}
+use Rattle.moves.specs.Reading.{refusedReading, readingUnless}
+use Rattle.moves.proofs.Carrying.{carried-plain, carried-isNone}
 use Rattle.moves.proofs.Listed.{reading-some, reading-refusal}
-use Rattle.verdict.specs.Answer.{answerUnless}
+use Rattle.verdict.specs.Answer.{answerBy}
 use Rattle.verdict.proofs.Answering.{reading-answer}
 use Rattle.frame.specs.declared.Written.{Written}
 use Rattle.log.specs.declared.Step.{Step}
@@ -60,7 +61,7 @@ module _ (kept : Kept) (l : List ℕ) where
       go (no n) = absurd (n (sym (refusal-own n) ∙ e))
 
 -- ---- what was read, placed in order
-pub entry-refusal : (l : List ℕ) → entryOf l .reading .refusal ≡ refusalOfLog l
+pub entry-refusal : (l : List ℕ) → entryOf l .reading .refusal ≡ carried (refusalOfLog l) (moveOf l)
 unfolding entryUnless
 entry-refusal l = reading-refusal (refusalOfLog l) (moveOf l)
 
@@ -68,23 +69,26 @@ entry-reading : (l : List ℕ) → entryOf l .reading ≡ readingUnless (refusal
 unfolding entryUnless
 entry-reading l = refl
 
+entry-none : (l : List ℕ) → refusalOfLog l ≡ 0 → isNone (entryOf l .reading .refusal) ≡ true
+entry-none l e = ap isNone (entry-refusal l) ∙ carried-isNone (moveOf l) (refusalOfLog l) ∙ eq-eqb (refusalOfLog l) 0 e
+
 module _ (kept : Kept) (l : List ℕ) where
   pub placed-is : placedEntry kept (entryOf l) ≡ readingUnless (refusalAt kept l) (moveOf l)
   placed-is = go (ℕ-discrete (refusalOfLog l) 0)
     where
       ordered : refusalOfLog l ≡ 0 → (o : Bool) → inOrder kept (numberOf l) ≡ o → placedEntry kept (entryOf l) ≡ readingUnless (refusalAt kept l) (moveOf l)
       ordered z true is =
-          placed-in kept (entryOf l) (entry-refusal l ∙ z) (ap (inOrder kept) (entry-read (refusalOfLog l) (numberOf l) (moveOf l) z) ∙ is)
+          placed-in kept (entryOf l) (entry-none l z) (ap (inOrder kept) (entry-read (refusalOfLog l) (numberOf l) (moveOf l) z) ∙ is)
           ∙ entry-reading l ∙ ap (λ r. readingUnless r (moveOf l)) (z ∙ sym (refusal-none kept l z is))
       ordered z false is =
-          placed-out kept (entryOf l) (entry-refusal l ∙ z) (ap (inOrder kept) (entry-read (refusalOfLog l) (numberOf l) (moveOf l) z) ∙ is)
-          ∙ sym (reading-some 10 (moveOf l) (λ e. omega arith)) ∙ ap (λ r. readingUnless r (moveOf l)) (sym (refusal-order kept l z is))
+          placed-out kept (entryOf l) (entry-none l z) (ap (inOrder kept) (entry-read (refusalOfLog l) (numberOf l) (moveOf l) z) ∙ is)
+          ∙ ap refusedReading (sym (carried-plain (moveOf l) 10 (omega arith) (omega arith) (omega arith))) ∙ sym (reading-some 10 (moveOf l) (λ e. omega arith)) ∙ ap (λ r. readingUnless r (moveOf l)) (sym (refusal-order kept l z is))
 
       go : Dec (refusalOfLog l ≡ 0) → placedEntry kept (entryOf l) ≡ readingUnless (refusalAt kept l) (moveOf l)
       go (yes z) = ordered z (inOrder kept (numberOf l)) refl
-      go (no n) = placed-refused kept (entryOf l) (λ e. n (sym (entry-refusal l) ∙ e)) ∙ entry-reading l ∙ ap (λ r. readingUnless r (moveOf l)) (sym (refusal-own kept l n))
+      go (no n) = placed-refused kept (entryOf l) (ap isNone (entry-refusal l) ∙ carried-isNone (moveOf l) (refusalOfLog l) ∙ ne-eqb (refusalOfLog l) 0 n) ∙ entry-reading l ∙ ap (λ r. readingUnless r (moveOf l)) (sym (refusal-own kept l n))
 
-  pub placed-refusal : placedEntry kept (entryOf l) .refusal ≡ refusalAt kept l
+  pub placed-refusal : placedEntry kept (entryOf l) .refusal ≡ carried (refusalAt kept l) (moveOf l)
   placed-refusal = ap (λ r. r .refusal) placed-is ∙ reading-refusal (refusalAt kept l) (moveOf l)
 
   -- ---- the number kept and the lines lost
@@ -118,9 +122,9 @@ accepted-at kept l e = accepted-move l (accepted-line kept l e .0)
 
 module _ (kept : Kept) (l : List ℕ) where
   -- what is put is the answer of the step
-  pub placed-answer : answerUnless (placedEntry kept (entryOf l) .refusal) (moveHeld (placedEntry kept (entryOf l) .held)) ≡ answerAt kept l
+  pub placed-answer : answerBy (placedEntry kept (entryOf l) .refusal) (moveHeld (placedEntry kept (entryOf l) .held)) ≡ answerAt kept l
   unfolding answerAt
-  placed-answer = ap (λ r. answerUnless (r .refusal) (moveHeld (r .held))) (placed-is kept l) ∙ reading-answer (refusalAt kept l) (moveOf l) (accepted-at kept l)
+  placed-answer = ap (λ r. answerBy (r .refusal) (moveHeld (r .held))) (placed-is kept l) ∙ reading-answer (refusalAt kept l) (moveOf l) (accepted-at kept l)
 
   pub entry-number : refusalAt kept l ≡ 0 → entryOf l .number ≡ numberOf l
   entry-number e = entry-read (refusalOfLog l) (numberOf l) (moveOf l) (accepted-line kept l e .0)

@@ -19,6 +19,7 @@ use Rattle.hex.specs.Hex.{unhex, hexLine}
 use Rattle.hex.specs.Text.{textual}
 use Rattle.moveline.specs.MoveFrame.{moveFrame, moveOfFrame}
 use Rattle.moveline.specs.Reading.{sized}
+use Rattle.outline.specs.declared.Refusal.{Refusal}
 use Rattle.log.specs.declared.Entry.{Entry}
 
 unfoldable pub logFrame : ℕ → Move → List ℕ
@@ -46,7 +47,7 @@ moveOf l = moveOfFrame (drop 3 (unhex l))
 abbrev pub bareLine : List ℕ → List ℕ
 bareLine l = drop 6 l
 
-abbrev pub refusedEntry : ℕ → Entry
+abbrev pub refusedEntry : Refusal → Entry
 refusedEntry r = record { number = 0; reading = refusedReading r }
 
 unfoldable pub entryUnless : ℕ → ℕ → Move → Entry

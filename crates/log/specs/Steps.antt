@@ -11,7 +11,8 @@ use mathlib.Core.Bool.{Bool, not, cond}
 use mathlib.Core.List.{List, [], _∷_, _++_}
 use Prim.Native.Nat.{ℕ}
 use lib.Dec.{eqb}
-use Rattle.outline.specs.Refusal.{firstThatApplies}
+use Rattle.outline.specs.Refusal.{firstThatApplies, isNone}
+use Rattle.outline.specs.declared.Refusal.the-variants.{Plain}
 use Rattle.moves.specs.Reading.{refusedReading}
 use Rattle.moves.specs.declared.Reading.{Reading}
 use Rattle.verdict.specs.Answer.{answerUnless}
@@ -40,7 +41,7 @@ unfoldable pub lostAt : Kept → List ℕ → ℕ
 lostAt kept l = cond (isAccepted kept l) (lostBefore kept (numberOf l)) 0
 
 unfoldable pub placedEntry : Kept → Entry → Reading
-placedEntry kept e = cond (eqb (e .reading .refusal) 0) (cond (inOrder kept (e .number)) (e .reading) (refusedReading 10)) (e .reading)
+placedEntry kept e = cond (isNone (e .reading .refusal)) (cond (inOrder kept (e .number)) (e .reading) (refusedReading (Plain 10))) (e .reading)
 
 abbrev pub Steps : Kept → List ℕ → Step → List ℕ → List ℕ → Type 0
 Steps kept l r out out′ = Says (answerAt kept l) (r .written) out out′ × (r .kept ≡ keptAfter kept l) × (r .lost ≡ lostAt kept l)

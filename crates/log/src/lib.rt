@@ -36,8 +36,9 @@ pub fn put_step(kept: Kept, line: &[u8], out: &mut [u8]) -> Step
 {
     let e = reader::read(line);
     let r = order::placed(kept, e);
+    let why = r.refusal;
     let written = frame::put_answer_of(r, out);
-    if r.refusal != 0 {
+    if !outline::is_none(why) {
         return Step {
             kept,
             lost: 0,

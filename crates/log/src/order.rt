@@ -7,6 +7,7 @@ use super::Entry;
 use super::Kept;
 use moves::Reading;
 use moves::lists;
+use outline::Refusal;
 
 // How far a number is ahead of the one that is kept.
 fn ahead(number: u16, kept: u16) -> u16
@@ -51,11 +52,12 @@ pub fn placed(kept: Kept, e: Entry) -> Reading
     ensures { λ r. ⌜ r ≡ placedEntry kept e ⌝ }
 {
     let r = e.reading;
-    if r.refusal != 0 {
+    let why = r.refusal;
+    if !outline::is_none(why) {
         return r;
     }
     if !is_in_order(kept, e.number) {
-        return lists::refused(10);
+        return lists::refused(Refusal::Plain(10));
     }
     r
 }

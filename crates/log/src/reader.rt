@@ -6,14 +6,15 @@ ghost use Rattle.hex.specs.Bytes.{number2};
 ghost use Rattle.log.specs.LogLine.{refusedEntry, entryOf};
 use super::Entry;
 use moves::lists;
+use outline::Refusal;
 
 // What is answered beside a refusal: zeros.
-fn refused(number: u8) -> Entry
-    ensures { λ r. ⌜ r ≡ refusedEntry number ⌝ }
+fn refused(refusal: Refusal) -> Entry
+    ensures { λ r. ⌜ r ≡ refusedEntry refusal ⌝ }
 {
     Entry {
         number: 0,
-        reading: lists::refused(number),
+        reading: lists::refused(refusal),
     }
 }
 
@@ -31,14 +32,14 @@ fn read_short(line: &[u8]) -> Entry
 {
     let d = hex::text::decode(line);
     if !d.ok {
-        return refused(2);
+        return refused(Refusal::Plain(2));
     }
     let f = d.frame;
     let bytes = f.bytes;
     if bytes[0] != 3 {
-        return refused(3);
+        return refused(Refusal::Plain(3));
     }
-    refused(4)
+    refused(Refusal::Plain(4))
 }
 
 // The number and the move of a log line that stands without its 0a, or 2 to 9, the first that applies.
@@ -50,23 +51,24 @@ pub fn read(line: &[u8]) -> Entry
     }
     let first = hex::text::decode(&line[..6]);
     if !first.ok {
-        return refused(2);
+        return refused(Refusal::Plain(2));
     }
     let rest = hex::text::decode(&line[6..]);
     if !rest.ok {
-        return refused(2);
+        return refused(Refusal::Plain(2));
     }
     let f = first.frame;
     let head = f.bytes;
     if head[0] != 3 {
-        return refused(3);
+        return refused(Refusal::Plain(3));
     }
     let g = rest.frame;
     let bytes = g.bytes;
     let n = g.count;
     let reading = moveline::reader::read_frame(&bytes[..n]);
-    if reading.refusal != 0 {
-        return refused(reading.refusal);
+    let why = reading.refusal;
+    if !outline::is_none(why) {
+        return refused(why);
     }
     Entry {
         number: number(head[1], head[2]),

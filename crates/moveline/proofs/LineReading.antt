@@ -10,7 +10,9 @@ use Rattle.whole.proofs.Padding.{made-again}
 use Rattle.outline.specs.Refusal.{firstThatApplies, counted}
 use Rattle.outline.proofs.Ranges.{counted-yes}
 use Rattle.moves.specs.HeldMove.{moveHeld, heldMove}
-use Rattle.moves.specs.Refusal.{refusal}
+use Rattle.moves.specs.Refusal.{refusal, carried}
+use Rattle.outline.specs.declared.Refusal.the-variants.{None, Plain}
+use Rattle.moves.proofs.Carrying.{carried-plain}
 use Rattle.moves.specs.Reading.{refusedReading, readingUnless}
 use Rattle.moves.specs.declared.HeldMove.{HeldMove}
 use Rattle.moves.proofs.Listed.{held-move, reading-none, reading-some}
@@ -24,25 +26,25 @@ use Rattle.moveline.proofs.AcceptedLine.{Sized}
 
 -- ---- a frame
 module _ (f : List ℕ) where
-  reading-refused : (n : ℕ) → refusalOfFrame f ≡ n → n ≢ 0 → readingOfFrame f ≡ refusedReading n
-  reading-refused n e h = reading-some (refusalOfFrame f) (moveOfFrame f) (λ z. h (sym e ∙ z)) ∙ ap refusedReading e
+  reading-refused : (n : ℕ) → refusalOfFrame f ≡ n → n ≢ 0 → readingOfFrame f ≡ refusedReading (carried n (moveOfFrame f))
+  reading-refused n e h = reading-some (refusalOfFrame f) (moveOfFrame f) (λ z. h (sym e ∙ z)) ∙ ap (λ r. refusedReading (carried r (moveOfFrame f))) e
 
-  pub reading-first : byteAt f 0 ≢ 1 → readingOfFrame f ≡ refusedReading 3
+  pub reading-first : byteAt f 0 ≢ 1 → readingOfFrame f ≡ refusedReading (Plain 3)
   unfolding refusalOfFrame firstThatApplies
-  reading-first h = reading-refused 3 (simp (ne-eqb _ _ h)) (omega arith)
+  reading-first h = reading-refused 3 (simp (ne-eqb _ _ h)) (omega arith) ∙ ap refusedReading (carried-plain (moveOfFrame f) 3 (omega arith) (omega arith) (omega arith))
 
-  pub reading-size : byteAt f 0 ≡ 1 → sized f ≡ false → readingOfFrame f ≡ refusedReading 4
+  pub reading-size : byteAt f 0 ≡ 1 → sized f ≡ false → readingOfFrame f ≡ refusedReading (Plain 4)
   unfolding refusalOfFrame firstThatApplies
-  reading-size e s = reading-refused 4 (simp (eq-eqb _ _ e, s)) (omega arith)
+  reading-size e s = reading-refused 4 (simp (eq-eqb _ _ e, s)) (omega arith) ∙ ap refusedReading (carried-plain (moveOfFrame f) 4 (omega arith) (omega arith) (omega arith))
 
   refusal-move : byteAt f 0 ≡ 1 → sized f ≡ true → refusalOfFrame f ≡ refusal (moveOfFrame f)
   unfolding refusalOfFrame refusal firstThatApplies
   refusal-move e s = simp (eq-eqb _ _ e, s)
 
-  pub reading-move : byteAt f 0 ≡ 1 → sized f ≡ true → refusal (moveOfFrame f) ≢ 0 → readingOfFrame f ≡ refusedReading (refusal (moveOfFrame f))
+  pub reading-move : byteAt f 0 ≡ 1 → sized f ≡ true → refusal (moveOfFrame f) ≢ 0 → readingOfFrame f ≡ refusedReading (carried (refusal (moveOfFrame f)) (moveOfFrame f))
   reading-move e s h = reading-refused _ (refusal-move e s) h
 
-  pub reading-moved : byteAt f 0 ≡ 1 → sized f ≡ true → refusal (moveOfFrame f) ≡ 0 → readingOfFrame f ≡ record { refusal = 0; held = heldMove (moveOfFrame f) }
+  pub reading-moved : byteAt f 0 ≡ 1 → sized f ≡ true → refusal (moveOfFrame f) ≡ 0 → readingOfFrame f ≡ record { refusal = None; held = heldMove (moveOfFrame f) }
   reading-moved e s r = reading-none (refusalOfFrame f) (moveOfFrame f) (refusal-move e s ∙ r)
 
 module _ (f : List ℕ) (s : Sized f) (h : HeldMove) (is : h ≡ heldMove (moveOfFrame f)) where
@@ -76,8 +78,10 @@ module _ (l : List ℕ) where
   unfolding refusalOfLine refusalOfFrame firstThatApplies
   refusal-text t = rw (textual-true 282 l t)
 
-  pub reading-other : ¬ Textual 282 l → readingOfLine l ≡ refusedReading 2
-  reading-other h = let e = refusal-other h in reading-some (refusalOfLine l) (moveOfLine l) (λ z. omega arith) ∙ ap refusedReading e
+  pub reading-other : ¬ Textual 282 l → readingOfLine l ≡ refusedReading (Plain 2)
+  reading-other h =
+      let e = refusal-other h in
+      reading-some (refusalOfLine l) (moveOfLine l) (λ z. omega arith) ∙ ap refusedReading (carried-plain (moveOfLine l) (refusalOfLine l) (λ z. omega arith) (λ z. omega arith) (λ z. omega arith) ∙ ap Plain e)
 
   pub reading-text : Textual 282 l → readingOfLine l ≡ readingOfFrame (unhex l)
   unfolding moveOfLine

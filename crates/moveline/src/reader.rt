@@ -7,6 +7,7 @@ use super::fields;
 use moves::Reading;
 use moves::lists;
 use moves::refusals;
+use outline::Refusal;
 
 // The move of a frame, or 3 to 9, the first that applies.
 pub fn read_frame(frame: &[u8]) -> Reading
@@ -14,18 +15,18 @@ pub fn read_frame(frame: &[u8]) -> Reading
     ensures { λ r. ⌜ r ≡ readingOfFrame (now (frame .entry)) ⌝ }
 {
     if frame[0] != 1 {
-        return lists::refused(3);
+        return lists::refused(Refusal::Plain(3));
     }
     if !fields::is_sized(frame) {
-        return lists::refused(4);
+        return lists::refused(Refusal::Plain(4));
     }
     let m = fields::move_in(frame);
     let r = refusals::refusal(m);
-    if r != 0 {
+    if !outline::is_none(r) {
         return lists::refused(r);
     }
     Reading {
-        refusal: 0,
+        refusal: Refusal::None,
         held: m,
     }
 }
@@ -36,7 +37,7 @@ pub fn read(line: &[u8]) -> Reading
 {
     let d = hex::text::decode(line);
     if !d.ok {
-        return lists::refused(2);
+        return lists::refused(Refusal::Plain(2));
     }
     let f = d.frame;
     let bytes = f.bytes;

@@ -15,32 +15,34 @@ use Rattle.outline.specs.Refusal.{firstThatApplies, counted}
 use Rattle.outline.proofs.Reasons.{firstThatApplies-rest}
 use Rattle.outline.proofs.Ranges.{counted-yes}
 use Rattle.outline.specs.Held.{held}
+use Rattle.outline.specs.declared.Refusal.the-variants.{None, Plain}
 use Rattle.outline.proofs.Testing.{wellCounted, wellCounted-yes, held-corners}
 use Rattle.moves.specs.Move.{Move, moveOfLists}
 use Rattle.moves.specs.HeldMove.{moveHeld, heldMove, Fit}
-use Rattle.moves.specs.Refusal.{reasons, refusal, refusalOfLists}
+use Rattle.moves.specs.Refusal.{reasons, refusal, refusalOfLists, carried}
 use Rattle.moves.specs.Reading.{refusedReading, readingUnless, readingOfLists, Readable}
 use Rattle.moves.specs.declared.HeldMove.{HeldMove}
 use Rattle.moves.proofs.Accepted.{accepted-yes}
+use Rattle.moves.proofs.Carrying.{carried-none, carried-plain, none-zero}
 use Rattle.moves.proofs.Refusing.{fit-yes}
 
 pub held-move : (m : Move) → length (m .a) ≤ 16 → length (m .b) ≤ 16 → moveHeld (heldMove m) ≡ m
 held-move m p q = λ i. record { a = held-corners (m .a) p i; b = held-corners (m .b) q i; va = m .va; vb = m .vb; limit = m .limit }
 
 module _ (r : ℕ) (m : Move) where
-  pub reading-none : r ≡ 0 → readingUnless r m ≡ record { refusal = 0; held = heldMove m }
+  pub reading-none : r ≡ 0 → readingUnless r m ≡ record { refusal = None; held = heldMove m }
   unfolding readingUnless
   reading-none e = simp (eq-eqb r 0 e)
 
-  pub reading-some : (r ≡ 0 → ⊥) → readingUnless r m ≡ refusedReading r
+  pub reading-some : (r ≡ 0 → ⊥) → readingUnless r m ≡ refusedReading (carried r m)
   unfolding readingUnless
   reading-some e = simp (ne-eqb r 0 e)
 
-  pub reading-refusal : readingUnless r m .refusal ≡ r
+  pub reading-refusal : readingUnless r m .refusal ≡ carried r m
   reading-refusal = go (ℕ-discrete r 0)
     where
-      go : Dec (r ≡ 0) → readingUnless r m .refusal ≡ r
-      go (yes z) = ap (λ x. x .refusal) (reading-none z) ∙ sym z
+      go : Dec (r ≡ 0) → readingUnless r m .refusal ≡ carried r m
+      go (yes z) = ap (λ x. x .refusal) (reading-none z) ∙ sym (carried-none m) ∙ ap (λ n. carried n m) (sym z)
       go (no n) = ap (λ x. x .refusal) (reading-some n)
 
 -- p and q: the lists are paired; c and d: their counts are right
@@ -57,10 +59,10 @@ module _ (xs ys : List ℤ) (va vb : Corner) (T : ℤ) where
   unfolding refusalOfLists refusal firstThatApplies
   lists-four e = four (paired xs) (counted (length (cornersOf xs))) (paired ys) (counted (length (cornersOf ys))) _ e
 
-  pub reading-four : (wellCounted xs && wellCounted ys) ≡ false → readingOfLists xs ys va vb T ≡ refusedReading 4
+  pub reading-four : (wellCounted xs && wellCounted ys) ≡ false → readingOfLists xs ys va vb T ≡ refusedReading (Plain 4)
   reading-four e =
       let f = lists-four e in
-      reading-some (refusalOfLists xs ys va vb T) (moveOfLists xs ys va vb T) (λ z. omega arith) ∙ ap refusedReading f
+      reading-some (refusalOfLists xs ys va vb T) (moveOfLists xs ys va vb T) (λ z. omega arith) ∙ ap refusedReading (carried-plain (moveOfLists xs ys va vb T) (refusalOfLists xs ys va vb T) (λ z. omega arith) (λ z. omega arith) (λ z. omega arith) ∙ ap Plain f)
 
   lists-move : wellCounted xs ≡ true → wellCounted ys ≡ true → refusalOfLists xs ys va vb T ≡ refusal (moveOfLists xs ys va vb T)
   unfolding refusalOfLists refusal firstThatApplies
@@ -83,7 +85,7 @@ module _ (r : ℕ) (m : Move) (ok : r ≡ 0 → refusal m ≡ 0) where
     where
       go : Dec (r ≡ 0) → Readable (readingUnless r m)
       go (yes z) = λ _. subst (λ x. Fit (x .held)) (sym (reading-none r m z)) (held-accepted m (ok z) .0)
-      go (no n) = λ e. absurd (n (sym (ap (λ x. x .refusal) (reading-some r m n)) ∙ e))
+      go (no n) = λ e. absurd (n (none-zero m r (sym (ap (λ x. x .refusal) (reading-some r m n)) ∙ e)))
 
 pub lists-accepted : (xs ys : List ℤ) (va vb : Corner) (T : ℤ) → refusalOfLists xs ys va vb T ≡ 0 → refusal (moveOfLists xs ys va vb T) ≡ 0
 unfolding refusalOfLists refusal

@@ -3,6 +3,7 @@ pub mod lists; // moves handed in as lists of numbers
 pub mod refusals; // why a move is turned away
 
 use outline::Outline;
+use outline::Refusal;
 use plane::Corner;
 
 // A move as it is held: both outlines with their velocities, and the time limit.
@@ -14,8 +15,8 @@ pub struct HeldMove {
     pub limit: i64,
 }
 
-// A move that was asked about: the number of its refusal, 0 for none, and the move, all zeros where it is refused.
+// A move that was asked about: its refusal, and the move, all zeros where it is refused.
 pub struct Reading {
-    pub refusal: u8,
+    pub refusal: Refusal,
     pub held: HeldMove,
 }

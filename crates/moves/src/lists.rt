@@ -5,18 +5,19 @@ use super::HeldMove;
 use super::Reading;
 use super::refusals;
 use outline::Outline;
+use outline::Refusal;
 use plane::Corner;
 
 // What is answered beside a refusal: a move of zeros.
-pub fn refused(number: u8) -> Reading
-    ensures { λ r. ⌜ r ≡ refusedReading number ⌝ }
+pub fn refused(refusal: Refusal) -> Reading
+    ensures { λ r. ⌜ r ≡ refusedReading refusal ⌝ }
 {
     let none = Outline {
         corners: [Corner { x: 0, y: 0 }; 16],
         count: 0,
     };
     Reading {
-        refusal: number,
+        refusal,
         held: HeldMove {
             a: none,
             b: none,
@@ -32,10 +33,10 @@ pub fn read_lists(a: &[i64], b: &[i64], va: Corner, vb: Corner, limit: i64) -> R
     ensures { λ r. ⌜ r ≡ readingOfLists (now (a .entry)) (now (b .entry)) va vb limit ⌝ }
 {
     if !outline::is_counted(a.len()) {
-        return refused(4);
+        return refused(Refusal::Plain(4));
     }
     if !outline::is_counted(b.len()) {
-        return refused(4);
+        return refused(Refusal::Plain(4));
     }
     let m = HeldMove {
         a: outline::outline_of(a),
@@ -45,11 +46,11 @@ pub fn read_lists(a: &[i64], b: &[i64], va: Corner, vb: Corner, limit: i64) -> R
         limit,
     };
     let r = refusals::refusal(m);
-    if r != 0 {
+    if !outline::is_none(r) {
         return refused(r);
     }
     Reading {
-        refusal: 0,
+        refusal: Refusal::None,
         held: m,
     }
 }

@@ -12,6 +12,8 @@ use Rattle.outline.proofs.is_placed.Reads as is-placed
 use Rattle.outline.proofs.is_counted.Reads as is-counted
 use Rattle.outline.proofs.outline_of.Reads as outline-of
 use Rattle.outline.proofs.test.Reads as test
+use Rattle.outline.proofs.is_none.Reads as is-none
+use Rattle.outline.proofs.number_of.Reads as number-of
 
 pub next-determined : (κs : Lfts 0) → Determined (next.Learnt κs) (λ r e. r)
 next-determined κs = determined (λ a r e p. p .0)
@@ -39,6 +41,12 @@ is-counted-determined κs = determined (λ a r e p. p)
 
 pub outline-of-determined : (κs : Lfts 1) → Determined (outline-of.Learnt κs) (λ r e. r)
 outline-of-determined κs = determined (λ a r e p. p)
+
+pub is-none-determined : (κs : Lfts 0) → Determined (is-none.Learnt κs) (λ r e. r)
+is-none-determined κs = determined (λ a r e p. p)
+
+pub number-of-determined : (κs : Lfts 0) → Determined (number-of.Learnt κs) (λ r e. r)
+number-of-determined κs = determined (λ a r e p. p)
 
 pub test-determined : (κs : Lfts 1) → Determined (test.Learnt κs) (λ r e. r)
 test-determined κs = determined (λ a r e p. p)

@@ -18,10 +18,11 @@ use Rattle.plane.specs.Edges.{corner}
 use Rattle.plane.specs.declared.Corner.{Corner}
 use Rattle.outline.specs.Sound.{left, badEdge, isSound}
 use Rattle.outline.specs.Coordinates.{cornersOf, paired}
-use Rattle.outline.specs.Refusal.{firstThatApplies, counted, placed, refusalOfOutline}
+use Rattle.outline.specs.Refusal.{firstThatApplies, counted, placed, refusalOfOutline, carriedBy}
 use Rattle.outline.specs.Held.{cornersHeld, held, Kept, Held}
 use Rattle.outline.specs.Tested.{tested, refusedAs}
 use Rattle.outline.specs.declared.Outline.{Outline}
+use Rattle.outline.specs.declared.Refusal.the-variants.{None, Plain, AtEdge}
 use Rattle.outline.proofs.Ranges.{counted-yes, placed-yes}
 use Rattle.outline.proofs.Pairs.{corners-length}
 
@@ -47,20 +48,20 @@ module _ (xs : List ℤ) where
       let few = k .2 in
       (even, omega (arith, corners-length xs))
 
-  pub tested-count : wellCounted xs ≡ false → tested xs ≡ refusedAs 4
-  unfolding tested refusalOfOutline firstThatApplies
+  pub tested-count : wellCounted xs ≡ false → tested xs ≡ refusedAs (Plain 4)
+  unfolding tested refusalOfOutline firstThatApplies carriedBy
   tested-count e = simp e
 
-  pub tested-place : wellCounted xs ≡ true → placed (cornersOf xs) ≡ false → tested xs ≡ refusedAs 7
-  unfolding tested refusalOfOutline firstThatApplies
+  pub tested-place : wellCounted xs ≡ true → placed (cornersOf xs) ≡ false → tested xs ≡ refusedAs (Plain 7)
+  unfolding tested refusalOfOutline firstThatApplies carriedBy
   tested-place e p = simp (e, p)
 
-  pub tested-unsound : wellCounted xs ≡ true → placed (cornersOf xs) ≡ true → isSound (cornersOf xs) ≡ false → tested xs ≡ refusedAs 8
-  unfolding tested refusalOfOutline firstThatApplies
+  pub tested-unsound : wellCounted xs ≡ true → placed (cornersOf xs) ≡ true → isSound (cornersOf xs) ≡ false → tested xs ≡ refusedAs (AtEdge 8 (badEdge (cornersOf xs)))
+  unfolding tested refusalOfOutline firstThatApplies carriedBy
   tested-unsound e p q = simp (e, p, q)
 
-  pub tested-sound : wellCounted xs ≡ true → placed (cornersOf xs) ≡ true → isSound (cornersOf xs) ≡ true → tested xs ≡ record { refusal = 0; outline = held (cornersOf xs) }
-  unfolding tested refusalOfOutline firstThatApplies
+  pub tested-sound : wellCounted xs ≡ true → placed (cornersOf xs) ≡ true → isSound (cornersOf xs) ≡ true → tested xs ≡ record { refusal = None; outline = held (cornersOf xs) }
+  unfolding tested refusalOfOutline firstThatApplies carriedBy
   tested-sound e p q = simp (e, p, q)
 
 -- ---- soundness, from the lowest bad edge

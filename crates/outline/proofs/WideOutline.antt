@@ -29,7 +29,7 @@ module _ (A : List Corner) (s : Sound A) where
       go : Dec (k ≡ i) → Dec (k ≡ next (length A) i) → pos 0 ≤ℤ cross (edge A i) (step (corner A i) (corner A k))
       go (yes p) d = omega (ints, at-start p)
       go (no p) (yes q) = omega (ints, at-end q)
-      go (no p) (no q) = omega (ints, s .strict i k hi hk p q)
+      go (no p) (no q) = omega (ints, s .strict i hi k hk p q)
 
   pub sound-wide : Wide A
   sound-wide =
@@ -38,5 +38,5 @@ module _ (A : List Corner) (s : Sound A) where
         left = sound-left;
         spread = λ i h.
             let k = third-corner (length A) i (s .three) h in
-            (k .0, k .1, s .strict i (k .0) h (k .1) (k .2) (k .3));
+            (k .0, k .1, s .strict i h (k .0) (k .1) (k .2) (k .3));
       }

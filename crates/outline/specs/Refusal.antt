@@ -4,17 +4,21 @@
 --   inRange z              z is from -10,000 to 10,000
 --   placed A               every coordinate of A is in range
 --   refusalOfOutline xs    4, 7 or 8 of the outline test that is handed the list xs, or 0
-use mathlib.Core.Bool.{Bool, not, cond, _&&_}
+--   carriedBy r A          the refusal with the number r of an outline A and what it carries: 8 the lowest bad edge of A, the others nothing
+--   isNone, numberIn, valuesIn    whether a refusal is none; its number, 0 for none; its number and the edge that it carries
+use mathlib.Core.Bool.{Bool, true, false, not, cond, _&&_}
 use mathlib.Core.List.{List, [], _∷_}
 use Prim.Native.Nat.{ℕ}
-use lib.Dec.{leb}
+use lib.Dec.{leb, eqb}
 use lib.IntN.{ℤ, natAbs}
 use lib.ListN.{length}
 use Rattle.whole.specs.Lowest.{every}
 use Rattle.plane.specs.Edges.{corner}
 use Rattle.plane.specs.declared.Corner.{Corner}
-use Rattle.outline.specs.Sound.{isSound}
+use Rattle.outline.specs.Sound.{badEdge, isSound}
 use Rattle.outline.specs.Coordinates.{cornersOf, paired}
+use Rattle.outline.specs.declared.Refusal.{Refusal}
+use Rattle.outline.specs.declared.Refusal.the-variants.{None, Plain, AtEdge}
 
 -- a reason: its number, and whether it applies
 abbrev pub Reason : Type 0
@@ -38,3 +42,22 @@ placed A = every (λ i. bothInRange (corner A i)) (length A)
 
 unfoldable pub refusalOfOutline : List ℤ → ℕ
 refusalOfOutline xs = firstThatApplies ((4, not (paired xs && counted (length (cornersOf xs)))) ∷ (7, not (placed (cornersOf xs))) ∷ (8, not (isSound (cornersOf xs))) ∷ [])
+
+-- ---- a refusal with what it carries
+unfoldable pub carriedBy : ℕ → List Corner → Refusal
+carriedBy r A = cond (eqb r 0) None (cond (eqb r 8) (AtEdge 8 (badEdge A)) (Plain r))
+
+abbrev pub isNone : Refusal → Bool
+isNone None = true
+isNone (Plain n) = false
+isNone (AtEdge n e) = false
+
+abbrev pub numberIn : Refusal → ℕ
+numberIn None = 0
+numberIn (Plain n) = n
+numberIn (AtEdge n e) = n
+
+abbrev pub valuesIn : Refusal → List ℕ
+valuesIn None = []
+valuesIn (Plain n) = n ∷ []
+valuesIn (AtEdge n e) = n ∷ e ∷ []

@@ -4,22 +4,23 @@
 --   refusedAs r     the answer of a test that refuses with r
 use mathlib.Core.Bool.{cond}
 use mathlib.Core.List.{List, []}
-use Prim.Native.Nat.{ℕ}
 use lib.Dec.{eqb}
 use lib.IntN.{ℤ}
 use Rattle.plane.specs.Interval.{low, high}
 use Rattle.plane.specs.declared.Corner.{Corner}
 use Rattle.outline.specs.Coordinates.{cornersOf}
-use Rattle.outline.specs.Refusal.{refusalOfOutline}
+use Rattle.outline.specs.Refusal.{refusalOfOutline, carriedBy}
 use Rattle.outline.specs.Held.{held}
 use Rattle.outline.specs.declared.Interval.{Interval}
+use Rattle.outline.specs.declared.Refusal.{Refusal}
+use Rattle.outline.specs.declared.Refusal.the-variants.{None}
 use Rattle.outline.specs.declared.Tested.{Tested}
 
 abbrev pub interval : Corner → List Corner → Interval
 interval D A = record { low = low D A; high = high D A }
 
-abbrev pub refusedAs : ℕ → Tested
+abbrev pub refusedAs : Refusal → Tested
 refusedAs r = record { refusal = r; outline = held [] }
 
 unfoldable pub tested : List ℤ → Tested
-tested xs = cond (eqb (refusalOfOutline xs) 0) (record { refusal = 0; outline = held (cornersOf xs) }) (refusedAs (refusalOfOutline xs))
+tested xs = cond (eqb (refusalOfOutline xs) 0) (record { refusal = None; outline = held (cornersOf xs) }) (refusedAs (carriedBy (refusalOfOutline xs) (cornersOf xs)))

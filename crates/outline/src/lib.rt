@@ -13,7 +13,7 @@ ghost use Rattle.plane.specs.Edges.{next, edge};
 ghost use Rattle.outline.specs.Sound.{left, badEdge};
 ghost use Rattle.outline.specs.Held.{Kept, Held, cornersHeld, held};
 ghost use Rattle.outline.specs.Coordinates.{cornersOf};
-ghost use Rattle.outline.specs.Refusal.{inRange, bothInRange, placed, counted};
+ghost use Rattle.outline.specs.Refusal.{inRange, bothInRange, placed, counted, isNone, numberIn};
 ghost use Rattle.outline.specs.Tested.{tested, refusedAs, interval};
 use plane::Corner;
 
@@ -29,10 +29,39 @@ pub struct Interval {
     pub high: i64,
 }
 
-// What the outline test answers: the number of its refusal, 0 for none, and the outline, all zeros where it is refused.
+// A refusal with what it carries: none; one by its number alone; 8 or 9 with the lowest edge that has a corner not strictly to its left.
+pub enum Refusal {
+    None,
+    Plain(u8),
+    AtEdge(u8, u8),
+}
+
+// What the outline test answers: its refusal, and the outline, all zeros where it is refused.
 pub struct Tested {
-    pub refusal: u8,
+    pub refusal: Refusal,
     pub outline: Outline,
+}
+
+// Whether there is no refusal.
+pub fn is_none(r: Refusal) -> bool
+    ensures { λ b. ⌜ b ≡ isNone r ⌝ }
+{
+    match r {
+        Refusal::None => true,
+        Refusal::Plain(_) => false,
+        Refusal::AtEdge(_, _) => false,
+    }
+}
+
+// The number of a refusal, 0 for none.
+pub fn number_of(r: Refusal) -> u8
+    ensures { λ n. ⌜ n ≡ numberIn r ⌝ }
+{
+    match r {
+        Refusal::None => 0,
+        Refusal::Plain(n) => n,
+        Refusal::AtEdge(n, _) => n,
+    }
 }
 
 // Above zero where p lies to the left of the edge from a to b.
@@ -94,12 +123,12 @@ pub fn bad_edge(o: Outline) -> usize
     ensures { λ r. ⌜ r ≡ badEdge (cornersHeld o) ⌝ }
 {
     let n = o.count;
-    let mut i: usize = 0;
-    while i < n {
-        if !is_edge_sound(o, i) {
-            return i;
+    let mut edge: usize = 0;
+    while edge < n {
+        if !is_edge_sound(o, edge) {
+            return edge;
         }
-        i += 1;
+        edge += 1;
     }
     n
 }
@@ -207,11 +236,11 @@ pub fn outline_of(xs: &[i64]) -> Outline
 }
 
 // The answer of a test that refuses.
-fn refused(number: u8) -> Tested
-    ensures { λ r. ⌜ r ≡ refusedAs number ⌝ }
+fn refused(refusal: Refusal) -> Tested
+    ensures { λ r. ⌜ r ≡ refusedAs refusal ⌝ }
 {
     Tested {
-        refusal: number,
+        refusal,
         outline: Outline {
             corners: [Corner { x: 0, y: 0 }; 16],
             count: 0,
@@ -219,22 +248,23 @@ fn refused(number: u8) -> Tested
     }
 }
 
-// The outline test: the outline of a list of coordinates x, y, x, y, .., or 4, 7 or 8, the first that applies.
+// The outline test: the outline of a list of coordinates x, y, x, y, .., or 4, 7 or 8, the first that applies, 8 with its edge.
 pub fn test(xs: &[i64]) -> Tested
     ensures { λ r. ⌜ r ≡ tested (now (xs .entry)) ⌝ }
 {
     if !is_counted(xs.len()) {
-        return refused(4);
+        return refused(Refusal::Plain(4));
     }
     let o = outline_of(xs);
     if !is_placed(o) {
-        return refused(7);
+        return refused(Refusal::Plain(7));
     }
-    if bad_edge(o) < o.count {
-        return refused(8);
+    let bad = bad_edge(o);
+    if bad < o.count {
+        return refused(Refusal::AtEdge(8, bad as u8));
     }
     Tested {
-        refusal: 0,
+        refusal: Refusal::None,
         outline: o,
     }
 }

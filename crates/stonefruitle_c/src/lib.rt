@@ -1,17 +1,17 @@
 // What C and Rust link: the checker's entry points under C names. A slice is a pointer and a length; include/stonefruitle.h declares them.
-// Each returns the number of its refusal, 0 for none.
+// Each returns the number of its refusal, 0 for none; with 8 and 9 the edge that is wrong is left in `edge`, otherwise `edge` stays.
 ghost use mathlib.Core.Path.{_≡_};
 ghost use Rattle.plane.specs.Point.{point};
-ghost use Rattle.outline.specs.Refusal.{refusalOfOutline};
+ghost use Rattle.outline.specs.Tested.{tested};
 ghost use Rattle.verdict.specs.Answer.{answerOfLists};
 ghost use Rattle.frame.specs.AnswerOfLine.{answerOfLine};
-ghost use Rattle.moveline.specs.Reading.{refusalOfLine, readingOfLine};
-ghost use Rattle.log.specs.LogLine.{refusalOfLog, entryOf};
+ghost use Rattle.moveline.specs.Reading.{readingOfLine};
+ghost use Rattle.log.specs.LogLine.{entryOf};
 ghost use Rattle.stonefruitle_c.specs.Numbers.{numbers};
 ghost use Rattle.stonefruitle_c.specs.Kept.{keptOf, StepsOut};
-ghost use Rattle.frame.specs.Said.{wrote};
-ghost use Rattle.checker.specs.Entries.{Speaks, WritesMove};
+ghost use Rattle.stonefruitle_c.specs.Handed.{Hands, SpeaksOut, WritesOut};
 
+mod handed; // what is handed out of a refusal
 mod kept; // the number that a log keeps
 mod numbers; // a move as a list of numbers
 
@@ -19,12 +19,19 @@ use plane::Corner;
 
 // The answer to a line, which stands without its 0a, into `out`, and its length into `written`: 0 where `out` has no room for it.
 #[no_mangle]
-pub extern "C" fn stonefruitle_answer_line(line: &[u8], out: &mut [u8], written: &mut usize) -> u8
-    ensures { λ r. ⌜ Speaks (answerOfLine (now (line .entry))) (wrote r (now (written .exit))) (now (out .entry)) (now (out .exit)) ⌝ }
+pub extern "C" fn stonefruitle_answer_line(
+    line: &[u8],
+    out: &mut [u8],
+    written: &mut usize,
+    edge: &mut u8,
+) -> u8
+    ensures { λ r. ⌜ SpeaksOut (answerOfLine (now (line .entry))) r (now (written .exit)) (now (edge .entry)) (now (edge .exit)) (now (out .entry)) (now (out .exit)) ⌝ }
 {
     let w = checker::answer_line(line, out);
+    let why = w.refusal;
     *written = w.bytes;
-    w.refusal
+    *edge = handed::edge_or(why, *edge);
+    outline::number_of(why)
 }
 
 // The same for a move handed in as numbers: the coordinates x, y, x, y, .. of both outlines, their velocities and the limit.
@@ -39,14 +46,17 @@ pub extern "C" fn stonefruitle_answer_lists(
     limit: i64,
     out: &mut [u8],
     written: &mut usize,
+    edge: &mut u8,
 ) -> u8
-    ensures { λ r. ⌜ Speaks (answerOfLists (now (a .entry)) (now (b .entry)) (point vax vay) (point vbx vby) limit) (wrote r (now (written .exit))) (now (out .entry)) (now (out .exit)) ⌝ }
+    ensures { λ r. ⌜ SpeaksOut (answerOfLists (now (a .entry)) (now (b .entry)) (point vax vay) (point vbx vby) limit) r (now (written .exit)) (now (edge .entry)) (now (edge .exit)) (now (out .entry)) (now (out .exit)) ⌝ }
 {
     let va = Corner { x: vax, y: vay };
     let vb = Corner { x: vbx, y: vby };
     let w = checker::answer_lists(a, b, va, vb, limit, out);
+    let why = w.refusal;
     *written = w.bytes;
-    w.refusal
+    *edge = handed::edge_or(why, *edge);
+    outline::number_of(why)
 }
 
 // The line of a move handed in as numbers, into `out`, and its length into `written`: 0 where the move is refused.
@@ -61,43 +71,52 @@ pub extern "C" fn stonefruitle_write_move(
     limit: i64,
     out: &mut [u8],
     written: &mut usize,
+    edge: &mut u8,
 ) -> u8
-    ensures { λ r. ⌜ WritesMove (now (a .entry)) (now (b .entry)) (point vax vay) (point vbx vby) limit (wrote r (now (written .exit))) (now (out .entry)) (now (out .exit)) ⌝ }
+    ensures { λ r. ⌜ WritesOut (now (a .entry)) (now (b .entry)) (point vax vay) (point vbx vby) limit r (now (written .exit)) (now (edge .entry)) (now (edge .exit)) (now (out .entry)) (now (out .exit)) ⌝ }
 {
     let va = Corner { x: vax, y: vay };
     let vb = Corner { x: vbx, y: vby };
     let put = checker::write_move(a, b, va, vb, limit, out);
+    let why = put.refusal;
     *written = put.bytes;
-    put.refusal
+    *edge = handed::edge_or(why, *edge);
+    outline::number_of(why)
 }
 
 // Whether a line, which stands without its 0a, is a move: 2 to 9, the first that applies, or 0.
 #[no_mangle]
-pub extern "C" fn stonefruitle_read_line(line: &[u8]) -> u8
-    ensures { λ r. ⌜ r ≡ refusalOfLine (now (line .entry)) ⌝ }
+pub extern "C" fn stonefruitle_read_line(line: &[u8], edge: &mut u8) -> u8
+    ensures { λ r. ⌜ Hands (readingOfLine (now (line .entry)) .refusal) r (now (edge .entry)) (now (edge .exit)) ⌝ }
 {
     let r = checker::read_line(line);
-    r.refusal
+    let why = r.refusal;
+    *edge = handed::edge_or(why, *edge);
+    outline::number_of(why)
 }
 
 // The move of a line, which stands without its 0a, as 71 numbers: the limit, the velocities of A and of B, the counts of A and of B,
 // sixteen corner places of A, sixteen of B; all zeros where the line is refused.
 #[no_mangle]
-pub extern "C" fn stonefruitle_read_move(line: &[u8], into: &mut [i64; 71]) -> u8
-    ensures { λ r. ⌜ (r ≡ refusalOfLine (now (line .entry))) × (now (into .exit) ≡ numbers (readingOfLine (now (line .entry)) .held)) ⌝ }
+pub extern "C" fn stonefruitle_read_move(line: &[u8], into: &mut [i64; 71], edge: &mut u8) -> u8
+    ensures { λ r. ⌜ Hands (readingOfLine (now (line .entry)) .refusal) r (now (edge .entry)) (now (edge .exit)) × (now (into .exit) ≡ numbers (readingOfLine (now (line .entry)) .held)) ⌝ }
 {
     let r = checker::read_line(line);
+    let why = r.refusal;
     *into = numbers::numbers_of(r.held);
-    r.refusal
+    *edge = handed::edge_or(why, *edge);
+    outline::number_of(why)
 }
 
 // The outline test of a list of coordinates x, y, x, y, ..: 4, 7 or 8, the first that applies, or 0.
 #[no_mangle]
-pub extern "C" fn stonefruitle_test_outline(coordinates: &[i64]) -> u8
-    ensures { λ r. ⌜ r ≡ refusalOfOutline (now (coordinates .entry)) ⌝ }
+pub extern "C" fn stonefruitle_test_outline(coordinates: &[i64], edge: &mut u8) -> u8
+    ensures { λ r. ⌜ Hands (tested (now (coordinates .entry)) .refusal) r (now (edge .entry)) (now (edge .exit)) ⌝ }
 {
     let t = outline::test(coordinates);
-    t.refusal
+    let why = t.refusal;
+    *edge = handed::edge_or(why, *edge);
+    outline::number_of(why)
 }
 
 // One step along a log: the answer to a log line, which stands without its 0a, into `out`, and its length into `written`; what is kept afterwards
@@ -112,8 +131,9 @@ pub extern "C" fn stonefruitle_log_step(
     number_after: &mut u16,
     lost: &mut u16,
     written: &mut usize,
+    edge: &mut u8,
 ) -> u8
-    ensures { λ r. ⌜ StepsOut (keptOf some number) (now (line .entry)) r (now (written .exit)) (now («some_after» .exit)) (now («number_after» .exit)) (now (lost .exit)) (now (out .entry)) (now (out .exit)) ⌝ }
+    ensures { λ r. ⌜ StepsOut (keptOf some number) (now (line .entry)) r (now (written .exit)) (now (edge .entry)) (now (edge .exit)) (now («some_after» .exit)) (now («number_after» .exit)) (now (lost .exit)) (now (out .entry)) (now (out .exit)) ⌝ }
 {
     let s = checker::log_step(kept::kept_of(some, number), line, out);
     let after = s.kept;
@@ -121,19 +141,28 @@ pub extern "C" fn stonefruitle_log_step(
     *some_after = kept::is_kept(after);
     *number_after = kept::number_kept(after);
     *lost = s.lost;
+    let why = w.refusal;
     *written = w.bytes;
-    w.refusal
+    *edge = handed::edge_or(why, *edge);
+    outline::number_of(why)
 }
 
 // The number and the move of a log line, which stands without its 0a, the move as the 71 numbers of `stonefruitle_read_move`; all zeros where the
 // line is refused: 2 to 9, the first that applies. The order is not tested.
 #[no_mangle]
-pub extern "C" fn stonefruitle_read_log(line: &[u8], number: &mut u16, into: &mut [i64; 71]) -> u8
-    ensures { λ r. ⌜ (r ≡ refusalOfLog (now (line .entry))) × (now (number .exit) ≡ entryOf (now (line .entry)) .number) × (now (into .exit) ≡ numbers (entryOf (now (line .entry)) .reading .held)) ⌝ }
+pub extern "C" fn stonefruitle_read_log(
+    line: &[u8],
+    number: &mut u16,
+    into: &mut [i64; 71],
+    edge: &mut u8,
+) -> u8
+    ensures { λ r. ⌜ Hands (entryOf (now (line .entry)) .reading .refusal) r (now (edge .entry)) (now (edge .exit)) × (now (number .exit) ≡ entryOf (now (line .entry)) .number) × (now (into .exit) ≡ numbers (entryOf (now (line .entry)) .reading .held)) ⌝ }
 {
     let e = checker::read_log(line);
     let r = e.reading;
+    let why = r.refusal;
     *number = e.number;
     *into = numbers::numbers_of(r.held);
-    r.refusal
+    *edge = handed::edge_or(why, *edge);
+    outline::number_of(why)
 }

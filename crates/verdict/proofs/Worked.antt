@@ -11,15 +11,15 @@ use Rattle.plane.specs.Point.{cross, dot}
 use Rattle.plane.specs.Interval.{low, high, shares, touches}
 use Rattle.plane.specs.Inside.{inside, meet}
 use Rattle.outline.specs.Sound.{left, badEdge, isSound}
-use Rattle.outline.specs.Refusal.{firstThatApplies, counted, placed}
+use Rattle.outline.specs.Refusal.{firstThatApplies, counted, placed, carriedBy}
 use Rattle.verdict.specs.Sides.{sideOf}
 use Rattle.verdict.specs.Span.{span, spans}
 use Rattle.showing.specs.Showing.{cornerInside, edgesMeet, meetingPair, showingOf, showing}
 use Rattle.verdict.specs.Verdict.{verdict}
-use Rattle.moves.specs.Refusal.{refusal}
+use Rattle.moves.specs.Refusal.{refusal, carried}
 use Rattle.verdict.specs.Answer.{answerUnless, answer}
 use Rattle.verdict.specs.Cases.{Case, cases}
 
 pub worked : map (λ (c : Case). answer (c .asked)) cases ≡ map (λ (c : Case). c .answered) cases
-unfolding lowest every best before same reduced cross dot low high shares touches inside meet left badEdge isSound firstThatApplies counted placed sideOf windowAhead windowStill window span table spans cornerInside edgesMeet meetingPair showingOf showing outcome verdict refusal answerUnless answer
+unfolding lowest every best before same reduced cross dot low high shares touches inside meet left badEdge isSound firstThatApplies counted placed sideOf windowAhead windowStill window span table spans cornerInside edgesMeet meetingPair showingOf showing outcome verdict refusal carriedBy carried answerUnless answer
 worked = refl

@@ -11,7 +11,9 @@ use lib.Dec.{eqb}
 use lib.IntN.{ℤ}
 use Rattle.plane.specs.declared.Corner.{Corner}
 use Rattle.moves.specs.Move.{Move, moveOfLists}
-use Rattle.moves.specs.Refusal.{refusal, refusalOfLists}
+use Rattle.moves.specs.Refusal.{refusal, refusalOfLists, carried}
+use Rattle.outline.specs.Refusal.{isNone, valuesIn}
+use Rattle.outline.specs.declared.Refusal.{Refusal}
 use Rattle.verdict.specs.Verdict.{verdict}
 use Rattle.verdict.specs.declared.Bearing.{Bearing}
 use Rattle.verdict.specs.declared.Bearing.the-variants.{Side, None}
@@ -20,9 +22,13 @@ use Rattle.showing.specs.declared.Showing.the-variants.{CornerOfA, CornerOfB, E
 use Rattle.verdict.specs.declared.Answer.{Answer}
 use Rattle.verdict.specs.declared.Answer.the-variants.{ClearByOne, ClearByTwo, Contact, Refused}
 
--- the verdict where no reason to refuse applies
+-- the verdict where no reason to refuse applies, else the refusal with what it carries
 unfoldable pub answerUnless : ℕ → Move → Answer
-answerUnless r m = cond (eqb r 0) (verdict m) (Refused r)
+answerUnless r m = cond (eqb r 0) (verdict m) (Refused (carried r m))
+
+-- of a move that was read: its refusal, or the verdict on it
+abbrev pub answerBy : Refusal → Move → Answer
+answerBy why m = cond (isNone why) (verdict m) (Refused why)
 
 unfoldable pub answer : Move → Answer
 answer m = answerUnless (refusal m) m
@@ -58,4 +64,4 @@ abbrev pub namesOf : Answer → List ℕ
 namesOf (ClearByOne k) = k ∷ []
 namesOf (ClearByTwo i j) = i ∷ j ∷ []
 namesOf (Contact e) = bearingNumber (e .bearing) ∷ showingNumbers (e .showing)
-namesOf (Refused r) = r ∷ []
+namesOf (Refused r) = valuesIn r

@@ -12,6 +12,7 @@ use Rattle.verdict.specs.declared.Bearing.the-variants.{Side, None}
 use Rattle.showing.specs.declared.Showing.{Showing}
 use Rattle.showing.specs.declared.Showing.the-variants.{CornerOfA, CornerOfB, Edges}
 use Rattle.verdict.specs.declared.Answer.{Answer}
+use Rattle.outline.specs.declared.Refusal.the-variants.{AtEdge}
 use Rattle.verdict.specs.declared.Answer.the-variants.{ClearByOne, ClearByTwo, Contact, Refused}
 
 abbrev pub minus : ℕ → ℤ
@@ -64,5 +65,5 @@ cases =
     -- P11
     ∷ row (move (box (minus 5) (minus 1) (pos 5) (pos 1)) (box (minus 1) (minus 5) (pos 1) (pos 5)) origin 0) (contact 0 1 0 1 None (Edges 0 1))
     -- P12
-    ∷ row (move star (square 0 0) origin 10) (Refused 8)
+    ∷ row (move star (square 0 0) origin 10) (Refused (AtEdge 8 0))
     ∷ []

@@ -4,13 +4,14 @@ ghost use Rattle.span.specs.Lead.{Comparable};
 ghost use Rattle.span.specs.declared.Outcome.the-variants.{FromTo};
 ghost use Rattle.moves.specs.HeldMove.{Fit, moveHeld};
 ghost use Rattle.verdict.specs.Verdict.{bearingAtZero, bearing, verdictFrom, verdict};
-ghost use Rattle.verdict.specs.Answer.{answerUnless, answerOfLists};
+ghost use Rattle.verdict.specs.Answer.{answerBy, answerOfLists};
 ghost use Rattle.moves.specs.Reading.{Readable};
 
 mod spans; // the span of each side, and what all have in common
 
 use moves::HeldMove;
 use moves::Reading;
+use outline::Refusal;
 use plane::Corner;
 use showing::Showing;
 use span::Lead;
@@ -36,7 +37,7 @@ pub enum Answer {
     ClearByOne(usize),
     ClearByTwo(usize, usize),
     Contact(Evidence),
-    Refused(u8),
+    Refused(Refusal),
 }
 
 // The side that bears where first is zero: the lowest on which the outlines touch.
@@ -97,10 +98,11 @@ pub fn verdict(m: HeldMove) -> Answer
 // The answer to a move that was read: its refusal, or the verdict on it.
 pub fn answer_of(r: Reading) -> Answer
     requires { ⌜ Readable r ⌝ }
-    ensures { λ x. ⌜ x ≡ answerUnless (r .refusal) (moveHeld (r .held)) ⌝ }
+    ensures { λ x. ⌜ x ≡ answerBy (r .refusal) (moveHeld (r .held)) ⌝ }
 {
-    if r.refusal != 0 {
-        return Answer::Refused(r.refusal);
+    let why = r.refusal;
+    if !outline::is_none(why) {
+        return Answer::Refused(why);
     }
     let m = r.held;
     verdict(m)

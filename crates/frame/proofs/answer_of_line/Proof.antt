@@ -1,7 +1,7 @@
 -- What was read is answered: the reading of a line is that of its move beside its refusal.
 use mathlib.Core.Path.{sym, _∙_, ap, subst}
 use Rattle.moves.specs.HeldMove.{moveHeld}
-use Rattle.verdict.specs.Answer.{answerUnless}
+use Rattle.verdict.specs.Answer.{answerBy}
 use Rattle.moves.specs.Reading.{Readable}
 use Rattle.moves.proofs.Listed.{reading-readable}
 use Rattle.verdict.proofs.Answering.{reading-answer}
@@ -23,7 +23,7 @@ returns : tie.Need-returns
 unfolding answerOfLine
 returns c =
     let l = c .before .before .before .args .line .now in
-    c .answer-of .ensures ∙ ap (λ r. answerUnless (r .refusal) (moveHeld (r .held))) (c .before .read .ensures) ∙ reading-answer _ _ (accepted l)
+    c .answer-of .ensures ∙ ap (λ r. answerBy (r .refusal) (moveHeld (r .held))) (c .before .read .ensures) ∙ reading-answer _ _ (accepted l)
 
 pub answer-of-line-spec : {M : Type 1} → statement M
 answer-of-line-spec = tie.close (tie.spec read-requires answer-of-requires returns)

@@ -1,9 +1,12 @@
 -- What was read and placed is the move beside the refusal of the step, so what is put is its answer; the number moves and lines are lost only where it is accepted.
 use mathlib.Core.Path.{_≡_, sym, _∙_, ap, subst}
+use borrow.Author.Tests.{not-true, not-false}
+use Rattle.outline.specs.Refusal.{isNone}
+use Rattle.moves.proofs.Carrying.{carried-zero, carried-some}
 use Rattle.moves.specs.HeldMove.{moveHeld}
 use Rattle.moves.specs.Reading.{Readable}
 use Rattle.moves.proofs.Listed.{reading-readable}
-use Rattle.verdict.specs.Answer.{answerUnless}
+use Rattle.verdict.specs.Answer.{answerBy}
 use Rattle.verdict.proofs.Answering.{reading-answer}
 use Rattle.frame.specs.Said.{Says}
 use Rattle.log.specs.LogLine.{numberOf, moveOf}
@@ -28,6 +31,9 @@ put-answer-of-requires c κs =
     let is = c .before .placed .ensures ∙ ap (placedEntry (s .args .kept)) (c .before .before .read .ensures) ∙ placed-is (s .args .kept) (s .args .line .now) in
     (subst Readable (sym is) (reading-readable _ _ (accepted-at (s .args .kept) (s .args .line .now))), s .pre)
 
+is-none-requires : tie.Need-is-none-requires
+is-none-requires c κs = search needs
+
 same-length : tie.Need-same-length
 same-length c = search needs
 
@@ -37,8 +43,8 @@ returns c =
     let k = s .args .kept in
     let l = s .args .line .now in
     let is = c .before .before .before .before .before .before .placed .ensures ∙ ap (placedEntry k) (c .before .before .before .before .before .before .before .read .ensures) in
-    let refused : ¬ (refusalAt k l ≡ 0) = λ e. c .if1 .taken (ap (λ r. r .refusal) is ∙ placed-refusal k l ∙ e) in
-    (subst (λ r. Says r (c .before .before .before .before .put-answer-of .result) (s .args .out .now) (c .before .before .before .before .put-answer-of .last .1 .0)) (ap (λ r. answerUnless (r .refusal) (moveHeld (r .held))) is ∙ placed-answer k l) (c .before .before .before .before .put-answer-of .ensures), sym (kept-stays k l refused), sym (lost-none k l refused))
+    let refused = carried-some (moveOf l) (refusalAt k l) (ap isNone (sym (ap (λ r. r .refusal) is ∙ placed-refusal k l)) ∙ sym (c .before .is-none .ensures) ∙ not-true _ (c .if1 .taken)) in
+    (subst (λ r. Says r (c .before .before .before .before .put-answer-of .result) (s .args .out .now) (c .before .before .before .before .put-answer-of .last .1 .0)) (ap (λ r. answerBy (r .refusal) (moveHeld (r .held))) is ∙ placed-answer k l) (c .before .before .before .before .put-answer-of .ensures), sym (kept-stays k l refused), sym (lost-none k l refused))
 
 lost-before-requires : tie.Need-lost-before-requires
 lost-before-requires c κs =
@@ -46,7 +52,7 @@ lost-before-requires c κs =
     let k = s .args .kept in
     let l = s .args .line .now in
     let is = c .before .before .before .before .before .before .placed .ensures ∙ ap (placedEntry k) (c .before .before .before .before .before .before .before .read .ensures) in
-    let none = sym (placed-refusal k l) ∙ sym (ap (λ r. r .refusal) is) ∙ c .if1 .left in
+    let none = carried-zero (moveOf l) (refusalAt k l) (ap isNone (sym (ap (λ r. r .refusal) is ∙ placed-refusal k l)) ∙ sym (c .before .is-none .ensures) ∙ not-false _ (c .if1 .left)) in
     ap (inOrder k) (ap (λ e. e .number) (c .before .before .before .before .before .before .before .read .ensures) ∙ entry-number k l none) ∙ accepted-line k l none .1
 
 same-length-2 : tie.Need-same-length-2
@@ -58,9 +64,9 @@ returns-2 c =
     let k = s .args .kept in
     let l = s .args .line .now in
     let is = c .before .before .before .before .before .before .before .placed .ensures ∙ ap (placedEntry k) (c .before .before .before .before .before .before .before .before .read .ensures) in
-    let none = sym (placed-refusal k l) ∙ sym (ap (λ r. r .refusal) is) ∙ c .before .if1 .left in
+    let none = carried-zero (moveOf l) (refusalAt k l) (ap isNone (sym (ap (λ r. r .refusal) is ∙ placed-refusal k l)) ∙ sym (c .before .before .is-none .ensures) ∙ not-false _ (c .before .if1 .left)) in
     let number = ap (λ e. e .number) (c .before .before .before .before .before .before .before .before .read .ensures) ∙ entry-number k l none in
-    (subst (λ r. Says r (c .before .before .before .before .before .put-answer-of .result) (s .args .out .now) (c .before .before .before .before .before .put-answer-of .last .1 .0)) (ap (λ r. answerUnless (r .refusal) (moveHeld (r .held))) is ∙ placed-answer k l) (c .before .before .before .before .before .put-answer-of .ensures), ap Number number ∙ sym (kept-moves k l none), c .lost-before .ensures ∙ ap (lostBefore k) number ∙ sym (lost-some k l none))
+    (subst (λ r. Says r (c .before .before .before .before .before .put-answer-of .result) (s .args .out .now) (c .before .before .before .before .before .put-answer-of .last .1 .0)) (ap (λ r. answerBy (r .refusal) (moveHeld (r .held))) is ∙ placed-answer k l) (c .before .before .before .before .before .put-answer-of .ensures), ap Number number ∙ sym (kept-moves k l none), c .lost-before .ensures ∙ ap (lostBefore k) number ∙ sym (lost-some k l none))
 
 pub put-step-spec : {M : Type 1} → statement M
 put-step-spec =
@@ -69,6 +75,7 @@ put-step-spec =
     read-requires
     placed-requires
     put-answer-of-requires
+    is-none-requires
     same-length
     returns
     lost-before-requires

@@ -14,10 +14,10 @@ use Rattle.outline.proofs.bad_edge.Statement.{statement}
 use Rattle.outline.proofs.bad_edge.Tie as tie
 
 abbrev Inv-loop : tie.InvT-loop
-Inv-loop o n i₀ i = (i ≤ n) × ((m : ℕ) → m < i → not (every (left (cornersHeld o) m) n) ≡ false)
+Inv-loop o n edge₀ edge = (edge ≤ n) × ((m : ℕ) → m < edge → not (every (left (cornersHeld o) m) n) ≡ false)
 
 abbrev μ-loop : tie.MeasureT-loop
-μ-loop o n i₀ i = n - i
+μ-loop o n edge₀ edge = n - edge
 
 loop-holds : tie.Need-loop-holds Inv-loop μ-loop
 loop-holds c = (omega arith, below-none _)
@@ -29,11 +29,11 @@ returns : tie.Need-returns Inv-loop μ-loop
 returns c =
     let at = c .before .before .before in
     let o = at .before .args .o in
-    sym (held-bad-edge o (at .before .pre .kept) ∙ lowest-is (λ i. not (every (left (cornersHeld o) i) (o .count))) (o .count) (at .loop .i) (c .before .before .loop-test .taken)
+    sym (held-bad-edge o (at .before .pre .kept) ∙ lowest-is (λ i. not (every (left (cornersHeld o) i) (o .count))) (o .count) (at .loop .edge) (c .before .before .loop-test .taken)
     (ap not (sym (c .before .is-edge-sound .ensures)) ∙ c .if1 .taken) (at .loop .inv .1))
 
-add-i : tie.Need-add-i Inv-loop μ-loop
-add-i c = search needs
+add-edge : tie.Need-add-edge Inv-loop μ-loop
+add-edge c = search needs
 
 loop-less : tie.Need-loop-less Inv-loop μ-loop
 loop-less c = search needs
@@ -58,7 +58,7 @@ bad-edge-spec =
     loop-holds
     is-edge-sound-requires
     returns
-    add-i
+    add-edge
     loop-less
     loop-again
     returns-2)

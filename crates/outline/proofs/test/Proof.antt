@@ -2,11 +2,14 @@
 use mathlib.Core.Path.{_≡_, sym, _∙_, ap, subst₂}
 use mathlib.Core.Bool.{true}
 use Prim.Native.Nat.{_<_, _≤_}
+use native.Mathlib.Omega.{arith}
 use borrow.Author.Tests.{not-true, not-false}
 use borrow.Author.Needs.{needs}
 use Rattle.outline.specs.Refusal.{placed}
 use Rattle.outline.specs.Sound.{badEdge}
-use Rattle.outline.proofs.Testing.{wellCounted, wellCounted-is, wellCounted-yes, wellCounted-short, tested-count, tested-place, tested-unsound, tested-sound, sound-no-bad, sound-bad, made-kept, made-corners, made-held}
+use Rattle.outline.specs.Tested.{refusedAs}
+use Rattle.outline.specs.declared.Refusal.the-variants.{None, AtEdge}
+use Rattle.outline.proofs.Testing.{wellCounted, wellCounted-is, wellCounted-yes, wellCounted-short, tested-count, tested-place, tested-unsound, tested-sound, sound-no-bad, sound-bad, made-kept, made-count, made-corners, made-held}
 use Rattle.outline.proofs.test.Statement.{statement}
 use Rattle.outline.proofs.test.Tie as tie
 use Rattle.outline.proofs.test.Reads as reads
@@ -54,6 +57,11 @@ bad-edge-requires c κs =
     let w = right-count (s .before) in
     made-held _ w _ (s .outline-of .ensures) (sym (c .before .is-placed .ensures ∙ ap placed (made-corners _ w _ (s .outline-of .ensures))) ∙ not-false _ (c .if2 .left))
 
+cast-t9 : tie.Need-cast-t9
+cast-t9 c =
+    let s = c .before .before .before .before .before in
+    omega (arith, c .if3 .taken, made-count _ (right-count (s .before)) _ (s .outline-of .ensures))
+
 refused-requires-3 : tie.Need-refused-requires-3
 refused-requires-3 c κs = search needs
 
@@ -63,7 +71,7 @@ returns-3 c =
     let w = right-count (s .before) in
     let is = made-corners _ w _ (s .outline-of .ensures) in
     let p = sym (c .before .before .before .before .before .is-placed .ensures ∙ ap placed is) ∙ not-false _ (c .before .before .before .before .if2 .left) in
-    c .refused3 .ensures ∙ sym (tested-unsound _ w p (sound-bad _ (subst₂ _<_ (c .before .before .before .bad-edge .ensures ∙ ap badEdge is) (ap (λ o. o .count) (s .outline-of .ensures)) (c .before .if3 .taken))))
+    c .refused3 .ensures ∙ ap (λ e. refusedAs (AtEdge 8 e)) (c .before .before .before .bad-edge .ensures ∙ ap badEdge is) ∙ sym (tested-unsound _ w p (sound-bad _ (subst₂ _<_ (c .before .before .before .bad-edge .ensures ∙ ap badEdge is) (ap (λ o. o .count) (s .outline-of .ensures)) (c .before .if3 .taken))))
 
 returns-4 : tie.Need-returns-4
 returns-4 c =
@@ -72,7 +80,7 @@ returns-4 c =
     let is = made-corners _ w _ (s .outline-of .ensures) in
     let p = sym (c .before .before .before .before .is-placed .ensures ∙ ap placed is) ∙ not-false _ (c .before .before .before .if2 .left) in
     let none = subst₂ _≤_ (ap (λ o. o .count) (s .outline-of .ensures)) (c .before .before .bad-edge .ensures ∙ ap badEdge is) (c .if3 .left) in
-    sym (tested-sound _ w p (sound-no-bad _ (wellCounted-yes _ w .1) none) ∙ ap (λ o. record { refusal = 0; outline = o }) (sym (s .outline-of .ensures)))
+    sym (tested-sound _ w p (sound-no-bad _ (wellCounted-yes _ w .1) none) ∙ ap (λ o. record { refusal = None; outline = o }) (sym (s .outline-of .ensures)))
 
 pub test-spec : {M : Type 1} → statement M
 test-spec =
@@ -86,6 +94,7 @@ test-spec =
     refused-requires-2
     returns-2
     bad-edge-requires
+    cast-t9
     refused-requires-3
     returns-3
     returns-4)

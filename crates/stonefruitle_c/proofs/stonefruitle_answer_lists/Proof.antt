@@ -1,5 +1,6 @@
--- The checker's answer in its two parts, for the numbers as they were handed in.
+-- The checker's answer in its parts, for the numbers as they were handed in.
 use mir.Facts.{toZ-ofZ}
+use Rattle.stonefruitle_c.proofs.Handing.{hands-out}
 use borrow.Author.Needs.{needs}
 use Rattle.stonefruitle_c.proofs.stonefruitle_answer_lists.Statement.{statement}
 use Rattle.stonefruitle_c.proofs.stonefruitle_answer_lists.Tie as tie
@@ -7,14 +8,22 @@ use Rattle.stonefruitle_c.proofs.stonefruitle_answer_lists.Tie as tie
 answer-lists-requires : tie.Need-answer-lists-requires
 answer-lists-requires c κs = search needs
 
+edge-or-requires : tie.Need-edge-or-requires
+edge-or-requires c κs = search needs
+
+number-of-requires : tie.Need-number-of-requires
+number-of-requires c κs = search needs
+
 same-length : tie.Need-same-length
 same-length c = search needs
 
 returns : tie.Need-returns
 returns c =
-    let s = c .before .before .before .before .before in
-    let f = s .fits in
-    rw (toZ-ofZ (f .vax), toZ-ofZ (f .vay), toZ-ofZ (f .vbx), toZ-ofZ (f .vby), toZ-ofZ (f .limit)) at (c .before .before .answer-lists .ensures)
+    let f = c .before .before .before .before .before .before .before .before .fits in
+    let put = rw (toZ-ofZ (f .vax), toZ-ofZ (f .vay), toZ-ofZ (f .vbx), toZ-ofZ (f .vby), toZ-ofZ (f .limit)) at (c .before .before .before .before .before .answer-lists .ensures) in
+    (hands-out (c .before .before .before .before .before .before .before .before .args .edge .now) (put .0) (c .number-of .ensures) (c .before .edge-or .ensures), put .1)
 
 pub stonefruitle-answer-lists-spec : {M : Type 1} → statement M
-stonefruitle-answer-lists-spec = tie.close (tie.spec answer-lists-requires same-length returns)
+stonefruitle-answer-lists-spec =
+    tie.close
+    (tie.spec answer-lists-requires edge-or-requires number-of-requires same-length returns)

@@ -1,20 +1,22 @@
 -- The test of the refusal is the definition's own.
 use mathlib.Core.Path.{sym, _∙_}
-use borrow.Author.Tests.{eq-eqb, ne-eqb}
-use Rattle.verdict.specs.Answer.{answerUnless}
+use borrow.Author.Tests.{not-true, not-false}
+use Rattle.outline.proofs.Reasons.{none-yes}
+use borrow.Author.Needs.{needs}
 use Rattle.verdict.proofs.answer_of.Statement.{statement}
 use Rattle.verdict.proofs.answer_of.Tie as tie
 
+is-none-requires : tie.Need-is-none-requires
+is-none-requires c κs = search needs
+
 returns : tie.Need-returns
-unfolding answerUnless
-returns c = sym (simp (ne-eqb _ 0 (c .if1 .taken)))
+returns c = sym (simp (sym (c .before .is-none .ensures) ∙ not-true _ (c .if1 .taken)))
 
 verdict-requires : tie.Need-verdict-requires
-verdict-requires c κs = c .before .before .before .pre (c .before .if1 .left)
+verdict-requires c κs = c .before .before .before .pre (none-yes _ (sym (c .before .before .is-none .ensures) ∙ not-false _ (c .before .if1 .left)))
 
 returns-2 : tie.Need-returns-2
-unfolding answerUnless
-returns-2 c = c .verdict .ensures ∙ sym (simp (eq-eqb (c .before .before .before .before .args .r .refusal) 0 (c .before .before .if1 .left)))
+returns-2 c = c .verdict .ensures ∙ sym (simp (sym (c .before .before .before .is-none .ensures) ∙ not-false _ (c .before .before .if1 .left)))
 
 pub answer-of-spec : {M : Type 1} → statement M
-answer-of-spec = tie.close (tie.spec returns verdict-requires returns-2)
+answer-of-spec = tie.close (tie.spec is-none-requires returns verdict-requires returns-2)

@@ -2,7 +2,7 @@
 use mathlib.Core.Path.{sym, _∙_, ap, subst}
 use mir.Facts.{toZ-ofZ}
 use Rattle.moves.specs.HeldMove.{moveHeld}
-use Rattle.verdict.specs.Answer.{answerUnless, answerOfLists}
+use Rattle.verdict.specs.Answer.{answerBy, answerOfLists}
 use Rattle.moves.specs.Reading.{Readable}
 use Rattle.moves.proofs.Listed.{reading-readable, lists-accepted}
 use Rattle.verdict.proofs.Answering.{reading-answer}
@@ -22,7 +22,7 @@ returns : tie.Need-returns
 unfolding answerOfLists
 returns c =
     let a = c .before .before .args in
-    c .answer-of .ensures ∙ ap (λ r. answerUnless (r .refusal) (moveHeld (r .held))) (c .before .read-lists .ensures) ∙ reading-answer _ _ (lists-accepted (a .a .now) (a .b .now) (a .va) (a .vb) _)
+    c .answer-of .ensures ∙ ap (λ r. answerBy (r .refusal) (moveHeld (r .held))) (c .before .read-lists .ensures) ∙ reading-answer _ _ (lists-accepted (a .a .now) (a .b .now) (a .va) (a .vb) _)
     ∙ ap (answerOfLists (a .a .now) (a .b .now) (a .va) (a .vb)) (toZ-ofZ (c .before .before .fits .limit))
 
 pub answer-of-lists-spec : {M : Type 1} → statement M

@@ -2,6 +2,7 @@
 use mathlib.Core.Path.{subst}
 use mathlib.Core.List.{[], _∷_, _++_, flatMap}
 use native.Mathlib.Omega.{arith}
+use Rattle.outline.specs.Refusal.{valuesIn}
 use Rattle.verdict.specs.Answer.{timesOf, namesOf}
 use Rattle.verdict.specs.declared.Answer.the-variants.{Contact}
 use Rattle.hex.specs.Bytes.{bytes4}
@@ -9,7 +10,7 @@ use Rattle.frame.specs.AnswerFrame.{answerFrame}
 use Rattle.hex.specs.Frame.{framed}
 use Rattle.frame.specs.Sayable.{Sayable}
 use Rattle.hex.proofs.Pushing.{empty-whole, Grown, next, chain}
-use Rattle.frame.proofs.AnswerBytes.{three-numbers}
+use Rattle.frame.proofs.AnswerBytes.{three-numbers, two-values}
 use borrow.Author.Needs.{needs}
 use Rattle.frame.proofs.writer.answer_frame.Statement.{statement}
 use Rattle.frame.proofs.writer.answer_frame.Tie as tie
@@ -18,15 +19,22 @@ use Rattle.frame.proofs.writer.answer_frame.Lts as lts
 use Rattle.hex.proofs.frames.push.Reads as push-reads
 use Rattle.hex.proofs.frames.push3.Reads as push3-reads
 use Rattle.frame.proofs.writer.push_evidence.Reads as push-evidence-reads
+use Rattle.frame.proofs.writer.push_refusal.Reads as push-refusal-reads
 
-three : (c : lts.After-push32 (push3-reads.Asked, push3-reads.Learnt, push-reads.Asked, push-reads.Learnt, push-evidence-reads.Asked, push-evidence-reads.Learnt) reads.Pre reads.Post) → Grown (framed []) (0x81 ∷ 1 ∷ c .before .before .r2 .given .0 .0 ∷ []) (c .push32 .result)
+three : (c : lts.After-push32 (push3-reads.Asked, push3-reads.Learnt, push-reads.Asked, push-reads.Learnt, push-evidence-reads.Asked, push-evidence-reads.Learnt, push-refusal-reads.Asked, push-refusal-reads.Learnt) reads.Pre reads.Post) → Grown (framed []) (0x81 ∷ 1 ∷ c .before .before .r2 .given .0 .0 ∷ []) (c .push32 .result)
 three c = record { base = empty-whole; room = omega arith; is = c .push32 .ensures }
 
-one : (c : lts.After-push2 (push3-reads.Asked, push3-reads.Learnt, push-reads.Asked, push-reads.Learnt, push-evidence-reads.Asked, push-evidence-reads.Learnt) reads.Pre reads.Post) → Grown (framed []) (0x81 ∷ []) (c .push2 .result)
+one : (c : lts.After-push2 (push3-reads.Asked, push3-reads.Learnt, push-reads.Asked, push-reads.Learnt, push-evidence-reads.Asked, push-evidence-reads.Learnt, push-refusal-reads.Asked, push-refusal-reads.Learnt) reads.Pre reads.Post) → Grown (framed []) (0x81 ∷ []) (c .push2 .result)
 one c = record { base = empty-whole; room = omega arith; is = c .push2 .ensures }
 
-two : (c : lts.After-push4 (push3-reads.Asked, push3-reads.Learnt, push-reads.Asked, push-reads.Learnt, push-evidence-reads.Asked, push-evidence-reads.Learnt) reads.Pre reads.Post) → Grown (framed []) (0x81 ∷ 2 ∷ []) (c .push4 .result)
+two : (c : lts.After-push4 (push3-reads.Asked, push3-reads.Learnt, push-reads.Asked, push-reads.Learnt, push-evidence-reads.Asked, push-evidence-reads.Learnt, push-refusal-reads.Asked, push-refusal-reads.Learnt) reads.Pre reads.Post) → Grown (framed []) (0x81 ∷ 2 ∷ []) (c .push4 .result)
 two c = chain (one (c .before)) (2 ∷ []) (c .push4 .ensures) (omega arith)
+
+five : (c : lts.After-push5 (push3-reads.Asked, push3-reads.Learnt, push-reads.Asked, push-reads.Learnt, push-evidence-reads.Asked, push-evidence-reads.Learnt, push-refusal-reads.Asked, push-refusal-reads.Learnt) reads.Pre reads.Post) → Grown (framed []) (0x81 ∷ []) (c .push5 .result)
+five c = record { base = empty-whole; room = omega arith; is = c .push5 .ensures }
+
+six : (c : lts.After-push6 (push3-reads.Asked, push3-reads.Learnt, push-reads.Asked, push-reads.Learnt, push-evidence-reads.Asked, push-evidence-reads.Learnt, push-refusal-reads.Asked, push-refusal-reads.Learnt) reads.Pre reads.Post) → Grown (framed []) (0x81 ∷ 0xff ∷ []) (c .push6 .result)
+six c = chain (five (c .before)) (0xff ∷ []) (c .push6 .ensures) (omega arith)
 
 enum-known-r : tie.Need-enum-known-r
 enum-known-r c = search needs
@@ -70,8 +78,14 @@ push-evidence-requires c κs =
 enum-known-r-4 : tie.Need-enum-known-r-4
 enum-known-r-4 c = search needs
 
-push3-requires-3 : tie.Need-push3-requires-3
-push3-requires-3 c κs = search needs
+push-requires-4 : tie.Need-push-requires-4
+push-requires-4 c κs = search needs
+
+push-requires-5 : tie.Need-push-requires-5
+push-requires-5 c κs = next (five c) 1 (omega arith)
+
+push-refusal-requires : tie.Need-push-refusal-requires
+push-refusal-requires c κs = next (six c) 2 (omega arith)
 
 returns : tie.Need-returns
 unfolding answerFrame flatMap
@@ -89,7 +103,9 @@ returns-3 c =
 
 returns-4 : tie.Need-returns-4
 unfolding answerFrame flatMap
-returns-4 c = rw (c .before .before .r4 .given .1) (c .push33 .ensures)
+returns-4 c =
+    let why = c .before .before .before .before .r4 .given .0 .0 in
+    rw (c .before .before .before .before .r4 .given .1) (chain (six (c .before)) (valuesIn why) (c .push-refusal .ensures) (omega (arith, two-values why)) .is)
 
 pub answer-frame-spec : {M : Type 1} → statement M
 answer-frame-spec =
@@ -108,7 +124,9 @@ answer-frame-spec =
     push-requires-3
     push-evidence-requires
     enum-known-r-4
-    push3-requires-3
+    push-requires-4
+    push-requires-5
+    push-refusal-requires
     returns
     returns-2
     returns-3

@@ -5,6 +5,8 @@ use native.Mathlib.Omega.{arith}
 use lib.ListN.{length, take, drop, length-take, length-drop}
 use lib.Seq.{take-all}
 use borrow.Author.Tests.{not-true, not-false}
+use Rattle.outline.specs.Refusal.{isNone}
+use Rattle.moves.proofs.Carrying.{carried-zero, carried-some}
 use Rattle.moves.proofs.Listed.{reading-refusal}
 use Rattle.hex.specs.Text.{decoded}
 use Rattle.hex.proofs.HexText.{unhex-length}
@@ -90,6 +92,9 @@ read-frame-requires c κs =
     let text = decoded-textual _ _ rest ok in
     rw (decoded-bytes _ _ rest ok) (omega (arith, unhex-length (drop 6 l), text .some, text .even))
 
+is-none-requires : tie.Need-is-none-requires
+is-none-requires c κs = search needs
+
 refused-requires-4 : tie.Need-refused-requires-4
 refused-requires-4 c κs = search needs
 
@@ -103,7 +108,7 @@ returns-5 c =
     let rest-ok = not-false _ (c .before .before .before .before .before .before .before .before .before .before .if3 .left) in
     let kind = sym (kind-read l long _ first first-ok) ∙ c .before .before .before .before .before .before .before .if4 .left in
     let is = ap (λ r. r .refusal) (c .before .before .before .read-frame .ensures ∙ ap readingOfFrame (decoded-bytes _ _ rest rest-ok)) ∙ reading-refusal _ _ in
-    c .refused4 .ensures ∙ ap refusedEntry is ∙ sym (others-refused l long (decoded-textual _ _ first first-ok) (decoded-textual _ _ rest rest-ok) kind (λ e. c .before .if5 .taken (is ∙ e)))
+    c .refused4 .ensures ∙ ap refusedEntry is ∙ sym (others-refused l long (decoded-textual _ _ first first-ok) (decoded-textual _ _ rest rest-ok) kind (carried-some _ _ (ap isNone (sym is) ∙ sym (c .before .before .is-none .ensures) ∙ not-true _ (c .before .if5 .taken))))
 
 array-read-number : tie.Need-array-read-number
 array-read-number c = search needs
@@ -124,7 +129,7 @@ returns-6 c =
     let rest-ok = not-false _ (c .before .before .before .before .before .before .before .before .before .before .if3 .left) in
     let kind = sym (kind-read l long _ first first-ok) ∙ c .before .before .before .before .before .before .before .if4 .left in
     let read = c .before .before .before .read-frame .ensures ∙ ap readingOfFrame (decoded-bytes _ _ rest rest-ok) in
-    let none = sym (reading-refusal _ _) ∙ sym (ap (λ r. r .refusal) read) ∙ c .before .if5 .left in
+    let none = carried-zero _ _ (ap isNone (sym (ap (λ r. r .refusal) read ∙ reading-refusal _ _)) ∙ sym (c .before .before .is-none .ensures) ∙ not-false _ (c .before .if5 .left)) in
     ap₂ (λ n r. record { number = n; reading = r }) (c .number .ensures ∙ number-read l long _ first first-ok) read ∙ sym (others-read l long (decoded-textual _ _ first first-ok) (decoded-textual _ _ rest rest-ok) kind none)
 
 pub read-spec : {M : Type 1} → statement M
@@ -149,6 +154,7 @@ read-spec =
     array-share-prefix-bytes
     slice-aggregate-read-frame
     read-frame-requires
+    is-none-requires
     refused-requires-4
     returns-5
     array-read-number
