@@ -119,16 +119,25 @@ pub fn edge(outline: &[Point], i: usize) -> (Point, Point) {
     (outline[i], outline[(i + 1) % outline.len()])
 }
 
+/// Whether some corner other than the two ends of edge `i` is not strictly to
+/// the left of it.
+pub fn is_bad_edge(outline: &[Point], i: usize) -> bool {
+    let count = outline.len();
+    let (start, stop) = edge(outline, i);
+    (0..count)
+        .filter(|&k| k != i && k != (i + 1) % count)
+        .any(|k| stop.minus(start).cross(outline[k].minus(start)) <= 0)
+}
+
+/// The lowest such edge, which a refusal names (request Q-3).
+pub fn lowest_bad_edge(outline: &[Point]) -> Option<usize> {
+    (0..outline.len()).find(|&i| is_bad_edge(outline, i))
+}
+
 /// For each edge, every corner other than its two ends is strictly to its
 /// left. Left turns alone would let a star through.
 pub fn is_sound(outline: &[Point]) -> bool {
-    let count = outline.len();
-    (0..count).all(|i| {
-        let (start, stop) = edge(outline, i);
-        (0..count)
-            .filter(|&k| k != i && k != (i + 1) % count)
-            .all(|k| stop.minus(start).cross(outline[k].minus(start)) > 0)
-    })
+    lowest_bad_edge(outline).is_none()
 }
 
 /// The directions of all sides: A's edges in order, then B's.

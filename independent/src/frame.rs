@@ -1,19 +1,47 @@
 //! Move lines in, answer lines out. Lines are held here without their 0a.
 
-use super::checker::{is_sound, point, verdict, Move, Point, Showing, Verdict};
+use super::checker::{lowest_bad_edge, point, verdict, Move, Point, Showing, Verdict};
 
-/// A refusal's number, 2 to 9, and 10 in a log. Refusal 1 is about lent room
-/// and cannot arise in a program that owns its output.
-pub type Refusal = u8;
+/// Why a line is turned away. Refusal 1 is about lent room and cannot arise in
+/// a program that owns its output.
+#[derive(Clone, Copy, Debug, PartialEq, Eq)]
+pub enum Refusal {
+    Digits,
+    Kind,
+    Count,
+    Limit,
+    Speed,
+    Place,
+    /// With the lowest edge that has a corner not strictly to its left
+    /// (request Q-3), as the next.
+    First(usize),
+    Second(usize),
+    /// In a log (request Q-2).
+    Order,
+}
 
-pub const DIGITS: Refusal = 2;
-pub const KIND: Refusal = 3;
-pub const COUNT: Refusal = 4;
-pub const LIMIT: Refusal = 5;
-pub const SPEED: Refusal = 6;
-pub const PLACE: Refusal = 7;
-pub const FIRST: Refusal = 8;
-pub const SECOND: Refusal = 9;
+impl Refusal {
+    pub fn number(self) -> u8 {
+        match self {
+            Refusal::Digits => 2,
+            Refusal::Kind => 3,
+            Refusal::Count => 4,
+            Refusal::Limit => 5,
+            Refusal::Speed => 6,
+            Refusal::Place => 7,
+            Refusal::First(_) => 8,
+            Refusal::Second(_) => 9,
+            Refusal::Order => 10,
+        }
+    }
+
+    pub fn edge(self) -> Option<usize> {
+        match self {
+            Refusal::First(edge) | Refusal::Second(edge) => Some(edge),
+            _ => None,
+        }
+    }
+}
 
 /// The most digits a line may have, and the range of the numbers in it.
 pub const MOST_DIGITS: usize = 282;
@@ -44,22 +72,34 @@ fn in_reach(p: Point) -> bool {
 
 /// Reads a move, or gives the first refusal that applies to the whole of it.
 pub fn read_move(line: &[u8]) -> Result<Move, Refusal> {
-    let frame = bytes_of(line, MOST_DIGITS).ok_or(DIGITS)?;
+    let frame = bytes_of(line, MOST_DIGITS).ok_or(Refusal::Digits)?;
     if frame[0] != 0x01 {
-        return Err(KIND);
+        return Err(Refusal::Kind);
     }
     read_frame(&frame)
 }
 
 /// The same of a frame whose first byte is 01.
 pub fn read_frame(frame: &[u8]) -> Result<Move, Refusal> {
+    let m = read_fields(frame)?;
+    if let Some(edge) = lowest_bad_edge(&m.a) {
+        return Err(Refusal::First(edge));
+    }
+    if let Some(edge) = lowest_bad_edge(&m.b) {
+        return Err(Refusal::Second(edge));
+    }
+    Ok(m)
+}
+
+/// The same where the outlines need not be sound.
+pub fn read_fields(frame: &[u8]) -> Result<Move, Refusal> {
     let count = |at: usize| match frame.get(at) {
         Some(&c) if (3..=16).contains(&c) => Ok(c as usize),
-        _ => Err(COUNT),
+        _ => Err(Refusal::Count),
     };
     let (count_a, count_b) = (count(1)?, count(2)?);
     if frame.len() != 13 + 4 * (count_a + count_b) {
-        return Err(COUNT);
+        return Err(Refusal::Count);
     }
 
     let limit = u16::from_be_bytes([frame[3], frame[4]]) as i128;
@@ -77,19 +117,13 @@ pub fn read_frame(frame: &[u8]) -> Result<Move, Refusal> {
     };
 
     if m.limit > REACH {
-        return Err(LIMIT);
+        return Err(Refusal::Limit);
     }
     if !in_reach(m.velocity_a) || !in_reach(m.velocity_b) {
-        return Err(SPEED);
+        return Err(Refusal::Speed);
     }
     if !m.a.iter().chain(&m.b).all(|corner| in_reach(*corner)) {
-        return Err(PLACE);
-    }
-    if !is_sound(&m.a) {
-        return Err(FIRST);
-    }
-    if !is_sound(&m.b) {
-        return Err(SECOND);
+        return Err(Refusal::Place);
     }
     Ok(m)
 }
@@ -117,7 +151,10 @@ pub fn write_move(m: &Move) -> Vec<u8> {
 pub fn write_answer(answer: &Result<Verdict, Refusal>) -> Vec<u8> {
     let mut frame = vec![0x81];
     match *answer {
-        Err(refusal) => frame.extend([0xff, refusal]),
+        Err(refusal) => {
+            frame.extend([0xff, refusal.number()]);
+            frame.extend(refusal.edge().map(|edge| edge as u8));
+        }
         Ok(Verdict::ClearByOne(k)) => frame.extend([0x00, k as u8]),
         Ok(Verdict::ClearByTwo(i, j)) => frame.extend([0x01, i as u8, j as u8]),
         Ok(Verdict::Contact {

@@ -5,7 +5,9 @@
 //! come in sets, one for document 01 and one for each request after it; a set
 //! stays as it is, so that its lines and answers can be compared for good.
 
-use super::checker::{edge, inside_or_on, interval, is_sound, point, Move, Point};
+use super::checker::{
+    edge, inside_or_on, interval, is_bad_edge, is_sound, lowest_bad_edge, point, Move, Point,
+};
 use super::frame::{write_move, MOST_DIGITS, REACH};
 
 #[derive(Clone, Copy, Debug, PartialEq, Eq)]
@@ -47,6 +49,25 @@ pub enum Class {
     Parting,
     /// In touch at time zero and moving into or along one another.
     Closing,
+    /// Not sound; edge 0 is the lowest bad one.
+    BadFirst,
+    /// Not sound; the lowest bad edge is neither the first nor the last but one.
+    BadMiddle,
+    /// Not sound; only the last edge and the one before it are bad. The last is
+    /// never the only one: where all corners lie strictly to the left of every
+    /// other edge, the outline goes round them in order, and its last edge too
+    /// has them to its left.
+    BadLast,
+    /// Not sound; more than two edges are bad.
+    BadSeveral,
+    /// Neither outline is sound, and their lowest bad edges differ.
+    BadBoth,
+    /// Sound corners in clockwise order.
+    Clockwise,
+    /// Two corners at one place.
+    Repeated,
+    /// Three corners in line, or all.
+    Straight,
 }
 
 /// Classes that take turns, with their names.
@@ -78,7 +99,19 @@ pub const AT_ZERO: Set = &[
     (Class::Closing, "closing"),
 ];
 
-pub const SETS: [(&str, Set); 2] = [("base", BASE), ("Q-1", AT_ZERO)];
+/// Of request Q-3: which edge is wrong. None of these moves is sound.
+pub const BAD_EDGES: Set = &[
+    (Class::BadFirst, "bad-first"),
+    (Class::BadMiddle, "bad-middle"),
+    (Class::BadLast, "bad-last"),
+    (Class::BadSeveral, "bad-several"),
+    (Class::BadBoth, "bad-both"),
+    (Class::Clockwise, "clockwise"),
+    (Class::Repeated, "repeated"),
+    (Class::Straight, "straight"),
+];
+
+pub const SETS: [(&str, Set); 3] = [("base", BASE), ("Q-1", AT_ZERO), ("Q-3", BAD_EDGES)];
 
 pub fn set_named(name: &str) -> Option<Set> {
     SETS.iter().find(|(n, _)| *n == name).map(|(_, set)| *set)
@@ -88,6 +121,11 @@ pub fn set_named(name: &str) -> Option<Set> {
 pub fn class_named(name: &str) -> Option<Set> {
     let all = SETS.iter().flat_map(|(_, set)| set.chunks(1));
     all.into_iter().find(|one| one[0].1 == name)
+}
+
+/// Whether this class is one of those of a set.
+pub fn is_of(set: Set, class: Class) -> bool {
+    set.iter().any(|(one, _)| *one == class)
 }
 
 /// The class of a line of a set: each in its turn.
@@ -102,6 +140,7 @@ pub fn line(seed: u64, place: u64, class: Class) -> Vec<u8> {
     match class {
         Class::Damaged => damaged(&mut rng),
         Class::Unsound => write_move(&unsound(&mut rng)),
+        bad if is_of(BAD_EDGES, bad) => write_move(&bad_move(&mut rng, bad)),
         _ => write_move(&sound_move(&mut rng, class)),
     }
 }
@@ -127,7 +166,7 @@ pub fn sound_move(rng: &mut Rng, class: Class) -> Move {
             Class::Across => across(rng),
             Class::Parting => parting(rng),
             Class::Closing => closing(rng),
-            Class::Unsound | Class::Damaged => panic!("{class:?} is not a class of sound moves"),
+            _ => panic!("{class:?} is not a class of sound moves"),
         };
         if let Some(m) = attempt {
             return m;
@@ -1114,6 +1153,164 @@ pub fn unsound(rng: &mut Rng) -> Move {
         }
     }
 }
+
+// ---------------------------------------------------------------------------
+// Outlines with a bad edge (request Q-3)
+
+pub fn bad_edges(outline: &[Point]) -> Vec<usize> {
+    let is_bad = |i: &usize| is_bad_edge(outline, *i);
+    (0..outline.len()).filter(is_bad).collect()
+}
+
+/// One corner of a sound outline out of its place. Mostly few edges are bad
+/// then, those at the corner among them.
+fn displaced(rng: &mut Rng, outline: &[Point]) -> Vec<Point> {
+    let mut corners = outline.to_vec();
+    let count = corners.len();
+    let k = rng.index(count);
+    let (before, after) = (corners[(k + count - 1) % count], corners[(k + 1) % count]);
+    let middle = point((before.x + after.x) / 2, (before.y + after.y) / 2);
+    match rng.index(5) {
+        // A dent that is a hair deep, or one as deep as the corner was high.
+        0 => corners[k] = middle.plus(rng.within(1)),
+        1 => corners[k] = before.plus(after).minus(corners[k]),
+        // Pulled out past the lines of the edges beside its own.
+        2 => {
+            let out = corners[k].minus(middle).times(rng.range(1, 3));
+            corners[k] = corners[k].plus(out);
+        }
+        // Pushed through, past any other corner.
+        3 => {
+            let past = rng.pick(outline);
+            corners[k] = past.times(2).minus(corners[k]);
+        }
+        _ => corners.swap(k, (k + 1) % count),
+    }
+    corners
+}
+
+/// Every second corner, so that an odd count winds round twice and turns left
+/// everywhere; or several corners out of their places.
+fn spoiled_often(rng: &mut Rng, outline: &[Point]) -> Vec<Point> {
+    let count = outline.len();
+    if count % 2 == 1 && rng.one_in(3) {
+        return (0..count).map(|k| outline[(2 * k) % count]).collect();
+    }
+    let times = rng.range(2, 4);
+    (0..times).fold(outline.to_vec(), |corners, _| displaced(rng, &corners))
+}
+
+/// A corner where another one is: its neighbour, one more beside it, or any.
+fn repeated(rng: &mut Rng, outline: &[Point]) -> Vec<Point> {
+    let mut corners = outline.to_vec();
+    let count = corners.len();
+    let i = rng.index(count);
+    match rng.index(3) {
+        0 => corners[(i + 1) % count] = corners[i],
+        1 if count < 16 => corners.insert(i, corners[i]),
+        _ => corners[(i + 1 + rng.index(count - 1)) % count] = corners[i],
+    }
+    corners
+}
+
+/// A corner in line with two others. The middle of any two corners has to be
+/// a whole place.
+fn straightened(rng: &mut Rng, outline: &[Point]) -> Vec<Point> {
+    let mut corners = outline.to_vec();
+    let count = corners.len();
+    let i = rng.index(count);
+    let at = |k: usize| outline[(i + k) % count];
+    let middle = |p: Point, q: Point| point((p.x + q.x) / 2, (p.y + q.y) / 2);
+    match rng.index(6) {
+        // All of them.
+        0 => {
+            let step = at(1).minus(at(0));
+            let step = point(step.x.signum(), step.y.signum()).times(rng.range(-3, 3));
+            let on_line = |k: usize| at(0).plus(step.times(k as i128));
+            corners = (0..count).map(on_line).collect();
+        }
+        // In line with the edge before it, beyond its end.
+        1 => corners[(i + 2) % count] = at(1).times(2).minus(at(0)),
+        // In the middle of an edge, or of a line between the neighbours.
+        2 | 3 if count < 16 => corners.insert(i + 1, middle(at(0), at(1))),
+        _ => corners[(i + 1) % count] = middle(at(0), at(2)),
+    }
+    corners
+}
+
+/// The same outline, begun at a corner from which the lowest bad edge is as
+/// wanted, if there is one.
+fn begun_so(
+    rng: &mut Rng,
+    outline: &[Point],
+    wanted: impl Fn(usize) -> bool,
+) -> Option<Vec<Point>> {
+    let begun_at = |turn: usize| [&outline[turn..], &outline[..turn]].concat();
+    let fit: Vec<usize> = (0..outline.len())
+        .filter(|&turn| lowest_bad_edge(&begun_at(turn)).is_some_and(&wanted))
+        .collect();
+    match fit.is_empty() {
+        true => None,
+        false => Some(begun_at(rng.pick(&fit))),
+    }
+}
+
+/// One try at an outline of a class.
+fn try_bad_outline(rng: &mut Rng, class: Class) -> Option<Vec<Point>> {
+    let size = rng.size(2, REACH);
+    let sound = enlarged(&any_outline(rng, size), 2);
+    let spoiled = match class {
+        Class::BadSeveral => spoiled_often(rng, &sound),
+        Class::Clockwise => sound.iter().rev().copied().collect(),
+        Class::Repeated => repeated(rng, &sound),
+        Class::Straight => straightened(rng, &sound),
+        _ => displaced(rng, &sound),
+    };
+    let (low, high) = bounds(&spoiled);
+    if high.x - low.x > 2 * REACH || high.y - low.y > 2 * REACH {
+        return None;
+    }
+    if class == Class::BadSeveral && bad_edges(&spoiled).len() <= 2 {
+        return None;
+    }
+    let late = spoiled.len() - 2;
+    let begun = match class {
+        Class::BadFirst => begun_so(rng, &spoiled, |edge| edge == 0),
+        Class::BadMiddle => begun_so(rng, &spoiled, |edge| 0 < edge && edge < late),
+        Class::BadLast => begun_so(rng, &spoiled, |edge| edge == late),
+        _ => begun_so(rng, &spoiled, |_| true),
+    };
+    begun.map(|corners| scattered(rng, &corners))
+}
+
+fn bad_outline(rng: &mut Rng, class: Class) -> Vec<Point> {
+    loop {
+        if let Some(corners) = try_bad_outline(rng, class) {
+            return corners;
+        }
+    }
+}
+
+/// A move that is refused with 8 or 9, and so with an edge.
+pub fn bad_move(rng: &mut Rng, class: Class) -> Move {
+    let beside = rng.pick(&[Class::Touching, Class::Still, Class::Full, Class::Instant]);
+    let mut m = sound_move(rng, beside);
+    if class != Class::BadBoth {
+        let outline = if rng.one_in(2) { &mut m.a } else { &mut m.b };
+        *outline = bad_outline(rng, class);
+        return m;
+    }
+    while lowest_bad_edge(&m.a) == lowest_bad_edge(&m.b) {
+        let one_place = [Class::BadFirst, Class::BadMiddle, Class::BadLast];
+        let (for_a, for_b) = (rng.pick(&one_place), rng.pick(&one_place));
+        m.a = bad_outline(rng, for_a);
+        m.b = bad_outline(rng, for_b);
+    }
+    m
+}
+
+// ---------------------------------------------------------------------------
+// Lines that are not a move
 
 fn just_outside(rng: &mut Rng) -> i128 {
     rng.pick(&[

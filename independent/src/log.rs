@@ -2,9 +2,7 @@
 //! held here without their 0a.
 
 use super::checker::{verdict, Move, Verdict};
-use super::frame::{bytes_of, hex, read_frame, write_move, Refusal, COUNT, DIGITS, KIND};
-
-pub const ORDER: Refusal = 10;
+use super::frame::{bytes_of, hex, read_frame, write_move, Refusal};
 
 /// The most digits a log line may have.
 pub const MOST_DIGITS: usize = 288;
@@ -21,12 +19,12 @@ pub type Kept = Option<u16>;
 /// Reads the number and the move of a log line, or gives the first refusal
 /// that applies. The order of lines is not looked at here.
 pub fn read_log(line: &[u8]) -> Result<(u16, Move), Refusal> {
-    let bytes = bytes_of(line, MOST_DIGITS).ok_or(DIGITS)?;
+    let bytes = bytes_of(line, MOST_DIGITS).ok_or(Refusal::Digits)?;
     if bytes[0] != 0x03 || bytes.get(3).is_some_and(|fourth| *fourth != 0x01) {
-        return Err(KIND);
+        return Err(Refusal::Kind);
     }
     if bytes.len() < 4 {
-        return Err(COUNT);
+        return Err(Refusal::Count);
     }
     let m = read_frame(&bytes[3..])?;
     Ok((u16::from_be_bytes([bytes[1], bytes[2]]), m))
@@ -67,8 +65,8 @@ pub struct Step {
 }
 
 pub fn step(kept: Kept, line: &[u8]) -> Step {
-    let accepted =
-        read_log(line).and_then(|(number, m)| Ok((number, lost(kept, number).ok_or(ORDER)?, m)));
+    let accepted = read_log(line)
+        .and_then(|(number, m)| Ok((number, lost(kept, number).ok_or(Refusal::Order)?, m)));
     match accepted {
         Ok((number, lost, m)) => Step {
             answer: Ok(verdict(&m)),

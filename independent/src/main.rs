@@ -6,9 +6,9 @@ mod generate;
 mod log;
 mod runs;
 
-use checker::{directions, touched_at_zero, verdict, Move, Showing, Verdict};
+use checker::{directions, edge, touched_at_zero, verdict, Move, Showing, Verdict};
 use frame::Refusal;
-use generate::Set;
+use generate::{bad_edges, Set, BAD_EDGES};
 use log::{Kept, Step};
 use runs::Log;
 use std::io::{self, BufRead, BufReader, BufWriter, Write};
@@ -60,12 +60,9 @@ enum Made {
 
 /// The set or the class of this name.
 fn made_named(name: &str) -> Option<Made> {
-    if name == "Q-2" {
-        return Some(Made::Log(runs::LOG));
-    }
     let moves = generate::set_named(name).or_else(|| generate::class_named(name));
-    let log = || runs::class_named(name).map(Made::Log);
-    moves.map(Made::Moves).or_else(log)
+    let log = || runs::set_named(name).or_else(|| runs::class_named(name));
+    moves.map(Made::Moves).or_else(|| log().map(Made::Log))
 }
 
 fn moves(mut output: impl Write, seed: u64, count: u64, made: Made) -> io::Result<()> {
@@ -102,7 +99,7 @@ fn touches_two_ways(m: &Move) -> bool {
 
 fn cases(read: &Result<Move, frame::Refusal>) -> Vec<&'static str> {
     let m = match read {
-        Err(refusal) => return vec![CASES[*refusal as usize + 11]],
+        Err(refusal) => return vec![CASES[refusal.number() as usize + 11]],
         Ok(m) => m,
     };
     match verdict(m) {
@@ -189,14 +186,14 @@ fn log_cases(kept: Kept, line: &[u8], step: &Step) -> Vec<&'static str> {
             }
             all
         }
-        (Err(log::ORDER), Some(kept)) => vec![match log::steps(kept, number()) {
+        (Err(Refusal::Order), Some(kept)) => vec![match log::steps(kept, number()) {
             0 => "r10-same",
             32_768 => "r10-half",
             _ => "r10-back",
         }],
         (Err(refusal), kept) => {
-            let mut all = vec![LOG_CASES[*refusal as usize + 4]];
-            if *refusal >= frame::LIMIT && log::lost(kept, number()).is_none() {
+            let mut all = vec![LOG_CASES[refusal.number() as usize + 4]];
+            if refusal.number() >= 5 && log::lost(kept, number()).is_none() {
                 all.push("passed-10");
             }
             all
@@ -204,28 +201,94 @@ fn log_cases(kept: Kept, line: &[u8], step: &Step) -> Vec<&'static str> {
     }
 }
 
-/// How often each case came up in each class.
+/// The cases of request Q-3, and before them those of lines of a log that come
+/// with them. A refusal with an edge counts by which it is, `edge-0`, `middle`
+/// or `late` (the last but one, above which none is named), and by which others
+/// of the outline are bad: `last-too`, just `two`, `more` or `all`. In `both`
+/// the other outline is not sound either. Of the named edge: `far`, both
+/// corners next to it are strictly to its left; `in-line`, no corner is to its
+/// right; `no-step`, it has no length.
+const EDGE_CASES: [&str; 16] = [
+    "accepted",
+    "r10-same",
+    "passed-10",
+    "r8",
+    "r9",
+    "both",
+    "edge-0",
+    "middle",
+    "late",
+    "last-too",
+    "two",
+    "more",
+    "all",
+    "far",
+    "in-line",
+    "no-step",
+];
+
+/// Those of a bare line that is refused, or of what follows the head of one in
+/// a log.
+fn edge_cases(line: &[u8], refusal: Refusal) -> Vec<&'static str> {
+    let Some(named) = refusal.edge() else {
+        return Vec::new();
+    };
+    let bytes = frame::bytes_of(line, frame::MOST_DIGITS).unwrap();
+    let m = frame::read_fields(&bytes).unwrap();
+    let is_first = matches!(refusal, Refusal::First(_));
+    let (outline, other) = if is_first { (m.a, m.b) } else { (m.b, m.a) };
+    let (count, bad) = (outline.len(), bad_edges(&outline));
+
+    let (start, stop) = edge(&outline, named);
+    let left = |k: usize| stop.minus(start).cross(outline[k % count].minus(start));
+    let met = [
+        ("both", !bad_edges(&other).is_empty()),
+        ("edge-0", named == 0),
+        ("middle", 0 < named && named < count - 2),
+        ("late", named == count - 2),
+        ("last-too", bad.contains(&(count - 1))),
+        ("two", bad.len() == 2),
+        ("more", 2 < bad.len() && bad.len() < count),
+        ("all", bad.len() == count),
+        ("far", left(named + count - 1) > 0 && left(named + 2) > 0),
+        ("in-line", (0..count).all(|k| left(k) >= 0)),
+        ("no-step", start == stop),
+    ];
+    let met = met.into_iter().filter(|(_, is_met)| *is_met);
+    met.map(|(case, _)| case).collect()
+}
+
+/// How often each case came up in each class, and each edge in all.
 struct Table {
     cases: &'static [&'static str],
     rows: Vec<(&'static str, u64, Vec<u64>)>,
+    named: [u64; 16],
 }
 
 impl Table {
     fn new(cases: &'static [&'static str], classes: impl Iterator<Item = &'static str>) -> Table {
         let row = |name| (name, 0, vec![0; cases.len()]);
         let rows = classes.map(row).collect();
-        Table { cases, rows }
-    }
-
-    fn add(&mut self, row: usize, met: &[&str]) {
-        let (_, lines, counts) = &mut self.rows[row];
-        *lines += 1;
-        for case in met {
-            counts[self.cases.iter().position(|c| c == case).unwrap()] += 1;
+        Table {
+            cases,
+            rows,
+            named: [0; 16],
         }
     }
 
-    /// The rows, and their sum.
+    /// Counts a line under the cases it meets that have a column.
+    fn add(&mut self, row: usize, met: &[&str], refusal: Option<Refusal>) {
+        let (_, lines, counts) = &mut self.rows[row];
+        *lines += 1;
+        for (case, count) in self.cases.iter().zip(counts) {
+            *count += u64::from(met.contains(case));
+        }
+        if let Some(edge) = refusal.and_then(Refusal::edge) {
+            self.named[edge] += 1;
+        }
+    }
+
+    /// The rows, their sum, and the edges.
     fn write(&self, output: &mut impl Write) -> io::Result<()> {
         let all = |of: &dyn Fn(&(&str, u64, Vec<u64>)) -> u64| self.rows.iter().map(of).sum();
         let sums = (0..self.cases.len()).map(|column| all(&|row| row.2[column]));
@@ -245,6 +308,10 @@ impl Table {
             }
             writeln!(output)?;
         }
+        if self.named.iter().any(|times| *times > 0) {
+            let named = self.named.map(|times| times.to_string()).join(" ");
+            writeln!(output, "edges named, from 0 to 15: {named}")?;
+        }
         Ok(())
     }
 }
@@ -263,24 +330,41 @@ fn count(mut output: impl Write, seed: u64, count: u64, made: Made) -> io::Resul
 }
 
 fn count_moves(seed: u64, count: u64, set: Set) -> Table {
-    let mut table = Table::new(&CASES, set.iter().map(|(_, name)| *name));
+    let columns = match generate::is_of(BAD_EDGES, set[0].0) {
+        true => &EDGE_CASES[3..],
+        false => &CASES[..],
+    };
+    let mut table = Table::new(columns, set.iter().map(|(_, name)| *name));
     for place in 0..count {
         let class = generate::class_of_place(set, place);
         let row = set.iter().position(|(c, _)| *c == class).unwrap();
-        let read = frame::read_move(&generate::line(seed, place, class));
-        table.add(row, &cases(&read));
+        let line = generate::line(seed, place, class);
+        let read = frame::read_move(&line);
+        let mut met = cases(&read);
+        let refusal = read.err();
+        met.extend(refusal.map_or(Vec::new(), |r| edge_cases(&line, r)));
+        table.add(row, &met, refusal);
     }
     table
 }
 
 /// The counts of a log, and how many lines it has lost.
 fn count_log(seed: u64, count: u64, set: runs::Set) -> (Table, u64) {
-    let mut table = Table::new(&LOG_CASES, set.iter().map(|(_, name)| *name));
+    let is_bad = |(class, _): &(runs::Class, _)| matches!(class, runs::Class::Bad(_));
+    let columns = match set.iter().any(is_bad) {
+        true => &EDGE_CASES[..],
+        false => &LOG_CASES[..],
+    };
+    let mut table = Table::new(columns, set.iter().map(|(_, name)| *name));
     let (mut kept, mut lost) = (None, 0);
     for (class, line) in Log::new(seed, set).take(count as usize) {
         let row = set.iter().position(|(c, _)| *c == class).unwrap();
         let step = log::step(kept, &line);
-        table.add(row, &log_cases(kept, &line, &step));
+        let mut met = log_cases(kept, &line, &step);
+        let refusal = step.answer.err();
+        let bare = line.get(6..).unwrap_or_default();
+        met.extend(refusal.map_or(Vec::new(), |r| edge_cases(bare, r)));
+        table.add(row, &met, refusal);
         kept = step.kept;
         lost += u64::from(step.lost);
     }
@@ -324,5 +408,7 @@ fn main() -> ExitCode {
 
 #[cfg(test)]
 mod tests;
+#[cfg(test)]
+mod tests_edges;
 #[cfg(test)]
 mod tests_log;

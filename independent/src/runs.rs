@@ -1,4 +1,4 @@
-//! Seeded logs (request Q-2). The numbers of a log walk on from line to line,
+//! Seeded logs (requests ). The numbers of a log walk on from line to line,
 //! so that a line depends on the seed, its place and the number that the lines
 //! before it leave kept. The class of a line is drawn, and not taken in turn,
 //! so that each comes after each.
@@ -6,8 +6,8 @@
 use super::checker::Move;
 use super::frame::write_move;
 use super::generate::{
-    any_digits, damaged, limit_outside, no_digit, outline, place_outside, scattered, sound_move,
-    speed_outside, unsound, Class as MoveClass, Rng, AT_ZERO, BASE,
+    any_digits, bad_move, damaged, limit_outside, no_digit, outline, place_outside, scattered,
+    sound_move, speed_outside, unsound, Class as MoveClass, Rng, AT_ZERO, BASE,
 };
 use super::log::{head, step, write_log, Kept, MOST_DIGITS};
 
@@ -39,6 +39,8 @@ pub enum Class {
     Kind,
     /// Cut, lengthened or changed anywhere.
     Damaged,
+    /// Not sound, a move of a class of request Q-3.
+    Bad(MoveClass),
 }
 
 pub type Set = &'static [(Class, &'static str)];
@@ -59,9 +61,30 @@ pub const LOG: Set = &[
     (Class::Damaged, "log-damaged"),
 ];
 
+/// Of request Q-3: lines that are not sound, among some that are.
+pub const LOG_BAD_EDGES: Set = &[
+    (Class::Next, "next"),
+    (Class::Again, "again"),
+    (Class::Bad(MoveClass::BadFirst), "log-first"),
+    (Class::Bad(MoveClass::BadMiddle), "log-middle"),
+    (Class::Bad(MoveClass::BadLast), "log-last"),
+    (Class::Bad(MoveClass::BadSeveral), "log-several"),
+    (Class::Bad(MoveClass::BadBoth), "log-both"),
+    (Class::Bad(MoveClass::Clockwise), "log-clockwise"),
+    (Class::Bad(MoveClass::Repeated), "log-repeated"),
+    (Class::Bad(MoveClass::Straight), "log-straight"),
+];
+
+pub const SETS: [(&str, Set); 2] = [("Q-2", LOG), ("Q-3-log", LOG_BAD_EDGES)];
+
+pub fn set_named(name: &str) -> Option<Set> {
+    SETS.iter().find(|(n, _)| *n == name).map(|(_, set)| *set)
+}
+
 /// The class of this name as a set of its own.
 pub fn class_named(name: &str) -> Option<Set> {
-    LOG.chunks(1).find(|one| one[0].1 == name)
+    let all = SETS.iter().flat_map(|(_, set)| set.chunks(1));
+    all.into_iter().find(|one| one[0].1 == name)
 }
 
 /// The lines of one log without end, each with its class. A line has no 0a.
@@ -115,6 +138,7 @@ fn line(rng: &mut Rng, class: Class, kept: Kept) -> Vec<u8> {
         Class::Bare => write_move(&m),
         Class::Kind => kind(rng, &m, kept),
         Class::Damaged => damaged_anywhere(rng, &m, kept),
+        Class::Bad(class) => write_log(any_way(rng, kept), &bad_move(rng, class)),
     }
 }
 

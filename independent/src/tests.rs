@@ -1,10 +1,10 @@
 //! Run by `rustc --test`; see README.md beside this directory.
 
 use super::checker::*;
-use super::frame::{self, read_move, write_answer, write_move};
-use super::generate::{self, line, sound_move, Class, Rng, SETS, STAR};
+use super::frame::{self, read_move, write_answer, write_move, Refusal};
+use super::generate::{self, is_of, line, sound_move, Class, Rng, BAD_EDGES, SETS, STAR};
 
-fn points(list: &[(i128, i128)]) -> Vec<Point> {
+pub fn points(list: &[(i128, i128)]) -> Vec<Point> {
     list.iter().map(|&(x, y)| point(x, y)).collect()
 }
 
@@ -24,7 +24,7 @@ fn case(a: Vec<Point>, b: Vec<Point>, velocity: (i128, i128), limit: i128) -> Mo
 }
 
 /// The paper's cases P1 to P12 with the answer lines they must have, that of
-/// P9 by request Q-1.
+/// P9 by request Q-1 and that of P12 by Q-3.
 pub fn paper_cases() -> Vec<(Move, &'static str)> {
     let ten = points(&[(0, 0), (10, 0), (10, 10), (0, 10)]);
     let lying = points(&[(-5, -1), (5, -1), (5, 1), (-5, 1)]);
@@ -65,7 +65,7 @@ pub fn paper_cases() -> Vec<(Move, &'static str)> {
             case(lying, standing, (0, 0), 0),
             "810200000000000000010000000000000001ff020001",
         ),
-        (case(STAR.to_vec(), s(0, 0), (0, 0), 10), "81ff08"),
+        (case(STAR.to_vec(), s(0, 0), (0, 0), 10), "81ff0800"),
     ]
 }
 
@@ -96,7 +96,7 @@ fn paper_lines_are_read_and_printed_as_they_stand() {
     let print = |case: usize| printed(&write_move(&paper_cases()[case - 1].0));
     assert_eq!(print(3), "810001\n");
     assert_eq!(print(6), "81010100\n");
-    assert_eq!(print(12), "81ff08\n");
+    assert_eq!(print(12), "81ff0800\n");
 }
 
 #[test]
@@ -163,7 +163,7 @@ fn lines_are_split_at_0a_alone() {
 
 #[test]
 fn the_first_refusal_that_applies_is_given() {
-    let refusal = |line: &str| read_move(line.as_bytes()).unwrap_err();
+    let refusal = |line: &str| read_move(line.as_bytes()).unwrap_err().number();
     assert_eq!(refusal(""), 2);
     assert_eq!(refusal("0"), 2);
     assert_eq!(refusal("010"), 2);
@@ -178,7 +178,7 @@ fn the_first_refusal_that_applies_is_given() {
     let of = |change: &dyn Fn(&mut Move)| {
         let mut m = good.clone();
         change(&mut m);
-        read_move(&write_move(&m)).err()
+        read_move(&write_move(&m)).err().map(Refusal::number)
     };
     assert_eq!(of(&|m| m.a.truncate(2)), Some(4));
     assert_eq!(of(&|m| m.b.truncate(2)), Some(4));
@@ -262,7 +262,8 @@ fn classes() -> impl Iterator<Item = Class> {
 fn sample(each: u64) -> Vec<(Class, Move)> {
     let mut all = Vec::new();
     for class in classes() {
-        if class != Class::Unsound && class != Class::Damaged {
+        let refused = [Class::Unsound, Class::Damaged].contains(&class) || is_of(BAD_EDGES, class);
+        if !refused {
             all.extend((0..each).map(|i| (class, sound_move(&mut Rng::for_line(7, i), class))));
         }
     }
@@ -298,7 +299,7 @@ fn the_generator_gives_what_it_says() {
                 assert_eq!(made, line(3, place, class));
             }
             if let Err(refusal) = frame::answer(&made) {
-                refused[refusal as usize] = true;
+                refused[refusal.number() as usize] = true;
             }
         }
     }

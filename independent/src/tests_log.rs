@@ -1,7 +1,7 @@
 //! Tests of logs (request Q-2), run by `rustc --test`.
 
 use super::checker::Move;
-use super::frame::{self, write_answer, write_move};
+use super::frame::{self, write_answer, write_move, Refusal};
 use super::log::*;
 use super::runs::{Log, LOG};
 use super::tests::paper_cases;
@@ -24,7 +24,7 @@ fn printed_of(lines: &[Vec<u8>]) -> String {
 }
 
 fn refusal(line: &str) -> u8 {
-    read_log(line.as_bytes()).unwrap_err()
+    read_log(line.as_bytes()).unwrap_err().number()
 }
 
 #[test]
@@ -66,13 +66,13 @@ fn the_first_refusal_that_applies_is_given() {
     for case in 1..=12 {
         let bare = String::from_utf8(write_move(&p(case))).unwrap();
         assert_eq!(refusal(&bare), 3);
-        assert_eq!(frame::answer(&write_log(7, &p(case))), Err(3));
+        assert_eq!(frame::answer(&write_log(7, &p(case))), Err(Refusal::Kind));
     }
     // After the head all is as it is for the bare line.
     let of = |change: &dyn Fn(&mut Move)| {
         let mut m = p(1);
         change(&mut m);
-        read_log(&write_log(9, &m)).err()
+        read_log(&write_log(9, &m)).err().map(Refusal::number)
     };
     assert_eq!(of(&|_| ()), None);
     assert_eq!(of(&|m| m.a.truncate(2)), Some(4));
@@ -110,7 +110,7 @@ fn numbers_are_taken_round_the_rollover() {
 fn a_step_says_what_is_kept_and_lost() {
     let ask = |kept: Kept, number: u16, m: &Move| {
         let Step { answer, kept, lost } = step(kept, &write_log(number, m));
-        (answer.err().unwrap_or(0), kept, lost)
+        (answer.err().map_or(0, Refusal::number), kept, lost)
     };
     let unsound = p(12);
     assert_eq!(ask(None, 0, &p(1)), (0, Some(0), 0));
@@ -143,7 +143,7 @@ fn lines_of_a_log_are_answered_in_order() {
     let damaged = ["", "0", "01", "03", "0300ff", "x", &"0".repeat(1_000_000)];
     for line in damaged {
         let log = [p3(5), line.into(), p3(9), line.into(), p3(6), p3(10)];
-        let refused = write_answer(&Err(refusal(line)));
+        let refused = write_answer(&Err(read_log(line.as_bytes()).unwrap_err()));
         let refused = String::from_utf8(refused).unwrap();
         let expected = format!("810001\n{refused}\n810001\n{refused}\n81ff0a\n810001\n");
         assert_eq!(printed_of(&log), expected);
@@ -165,7 +165,9 @@ fn accepted_lines_are_answered_as_bare_ones() {
             assert_eq!(step.lost, order.unwrap_or(0));
         }
         match step.answer {
-            Err(2..=4 | ORDER) => assert_eq!(step.kept, kept),
+            Err(Refusal::Digits | Refusal::Kind | Refusal::Count | Refusal::Order) => {
+                assert_eq!(step.kept, kept)
+            }
             Err(refusal) => {
                 assert_eq!(frame::answer(&line[6..]), Err(refusal), "{class:?}");
                 assert_eq!(step.kept, kept);
