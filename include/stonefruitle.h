@@ -58,6 +58,12 @@
  *
  * Each function returns the number of its refusal, 0 for none. Of several that
  * apply the first in this list is returned.
+ *
+ * Edges. Each function takes as its last argument a place for the number of an
+ * edge. With refusals 8 and 9, and with no other return, it is written: the
+ * lowest edge of that outline that has a corner, other than its two ends, not
+ * strictly to its left. Edge i runs from corner i to corner i + 1, the last to
+ * corner 0. With any other return *edge is left as it was.
  */
 #ifndef STONEFRUITLE_H
 #define STONEFRUITLE_H
@@ -74,8 +80,8 @@
 #define STONEFRUITLE_LIMIT 5  /* the limit is outside 0 to 10000 */
 #define STONEFRUITLE_SPEED 6  /* a velocity component is outside -10000 to 10000 */
 #define STONEFRUITLE_PLACE 7  /* a coordinate is outside -10000 to 10000 */
-#define STONEFRUITLE_FIRST 8  /* the first outline is not sound */
-#define STONEFRUITLE_SECOND 9 /* the second outline is not sound */
+#define STONEFRUITLE_FIRST 8  /* the first outline is not sound; *edge says which edge is wrong */
+#define STONEFRUITLE_SECOND 9 /* the second outline is not sound, likewise */
 #define STONEFRUITLE_ORDER 10 /* a line of a log whose number does not follow the kept one */
 
 /* The least room for an answer line and for a move line, 0a included. */
@@ -99,14 +105,16 @@ extern "C" {
 /*
  * The answer to a move line.
  *
- * Takes the line without its 0a, a buffer for the answer line and a place for
- * its length. Refusals: 1 where out_length is under 45, then 2 to 9.
+ * Takes the line without its 0a, a buffer for the answer line, a place for its
+ * length and one for an edge. Refusals: 1 where out_length is under 45, then 2
+ * to 9.
  *
  * Without a refusal, the first *written bytes of out are the answer line with
  * its 0a: 81 00 k or 81 01 i j for clear, 81 02 n d n d b s p q for contact, in
- * hexadecimal, so 7, 9 or 45 bytes. With refusal r from 2 to 9 they are the 7 bytes of 81 ff r with
- * 0a. With refusal 1 nothing is written to out and *written is 0. The bytes of
- * out after the line stay as they were.
+ * hexadecimal, so 7, 9 or 45 bytes. With refusal r from 2 to 7 they are the 7
+ * bytes of 81 ff r with 0a; with r 8 or 9 the 9 bytes of 81 ff r e with 0a,
+ * where e is the edge that *edge has, too. With refusal 1 nothing is written to
+ * out and *written is 0. The bytes of out after the line stay as they were.
  *
  * b is the side that bears: at the first time of contact the outlines' intervals
  * on it share exactly one value. Where that time is zero it is the lowest such
@@ -115,24 +123,24 @@ extern "C" {
  */
 uint8_t stonefruitle_answer_line(const uint8_t *line, size_t line_length,
                                  uint8_t *out, size_t out_length,
-                                 size_t *written);
+                                 size_t *written, uint8_t *edge);
 
 /*
  * The answer to a move handed in as numbers.
  *
  * Takes the coordinates of both outlines, the velocity of each, the limit, a
- * buffer for the answer line and a place for its length. a_length and b_length
- * count numbers, so twice the corners. Refusals: 1 where out_length is under
- * 45, then 4 to 9.
+ * buffer for the answer line, a place for its length and one for an edge.
+ * a_length and b_length count numbers, so twice the corners. Refusals: 1 where
+ * out_length is under 45, then 4 to 9.
  *
- * out and *written are left as by stonefruitle_answer_line.
+ * out, *written and *edge are left as by stonefruitle_answer_line.
  */
 uint8_t stonefruitle_answer_lists(const int64_t *a, size_t a_length,
                                   const int64_t *b, size_t b_length,
                                   int64_t vax, int64_t vay,
                                   int64_t vbx, int64_t vby, int64_t limit,
                                   uint8_t *out, size_t out_length,
-                                  size_t *written);
+                                  size_t *written, uint8_t *edge);
 
 /*
  * The line of a move handed in as numbers.
@@ -142,33 +150,37 @@ uint8_t stonefruitle_answer_lists(const int64_t *a, size_t a_length,
  *
  * Without a refusal, the first *written bytes of out, 75 to 283, are the move
  * line with its 0a, and the bytes after it stay as they were. With a refusal
- * nothing is written to out and *written is 0.
+ * nothing is written to out and *written is 0; with 8 and 9 *edge is written.
  */
 uint8_t stonefruitle_write_move(const int64_t *a, size_t a_length,
                                 const int64_t *b, size_t b_length,
                                 int64_t vax, int64_t vay,
                                 int64_t vbx, int64_t vby, int64_t limit,
                                 uint8_t *out, size_t out_length,
-                                size_t *written);
+                                size_t *written, uint8_t *edge);
 
 /*
  * Whether a line is a move.
  *
- * Takes the line without its 0a and writes nothing. Refusals: 2 to 9. 0 says
- * nothing of whether the outlines meet.
+ * Takes the line without its 0a and a place for an edge, and writes nothing
+ * else. Refusals: 2 to 9, and with 8 and 9 *edge is written. 0 says nothing of
+ * whether the outlines meet.
  */
-uint8_t stonefruitle_read_line(const uint8_t *line, size_t line_length);
+uint8_t stonefruitle_read_line(const uint8_t *line, size_t line_length,
+                               uint8_t *edge);
 
 /*
  * The move of a line, as numbers.
  *
- * Takes the line without its 0a and a place for 71 numbers, all of which are
- * written: the limit; the velocity x, y of A; that of B; the count of corners
- * of A; that of B; x, y of A's sixteen corner places; those of B's. Places past
- * the count are zero. Refusals: 2 to 9, and then all 71 numbers are zero.
+ * Takes the line without its 0a, a place for 71 numbers and one for an edge.
+ * All 71 numbers are written: the limit; the velocity x, y of A; that of B; the
+ * count of corners of A; that of B; x, y of A's sixteen corner places; those of
+ * B's. Places past the count are zero. Refusals: 2 to 9, and then all 71
+ * numbers are zero; with 8 and 9 *edge is written.
  */
 uint8_t stonefruitle_read_move(const uint8_t *line, size_t line_length,
-                               int64_t numbers[STONEFRUITLE_NUMBERS]);
+                               int64_t numbers[STONEFRUITLE_NUMBERS],
+                               uint8_t *edge);
 
 /*
  * One line of a log: its answer, and what it leaves for the next line.
@@ -176,7 +188,7 @@ uint8_t stonefruitle_read_move(const uint8_t *line, size_t line_length,
  * Takes what the lines before it leave: kept_some, whether one of them was
  * accepted, and kept_number, the number of the last that was, which is not
  * looked at where kept_some is false. Takes the line without its 0a, a buffer
- * for the answer line and four places. The first call of a log has kept_some
+ * for the answer line and five places. The first call of a log has kept_some
  * false; each later one is handed what the one before left.
  *
  * Refusals: 1 where out_length is under 45; 2 to 9; then 10 where a number is
@@ -189,37 +201,40 @@ uint8_t stonefruitle_read_move(const uint8_t *line, size_t line_length,
  * *kept_some_after is kept_some, *kept_number_after is kept_number, or 0 where
  * none is kept; and *lost is 0.
  *
- * out and *written are left as by stonefruitle_answer_line, with refusal 10 as
- * with 2 to 9. The answer to a line that is accepted is that to its move.
+ * out, *written and *edge are left as by stonefruitle_answer_line, with refusal
+ * 10 as with 2 to 7. The answer to a line that is accepted is that to its move.
  */
 uint8_t stonefruitle_log_step(bool kept_some, uint16_t kept_number,
                               const uint8_t *line, size_t line_length,
                               uint8_t *out, size_t out_length,
                               bool *kept_some_after,
                               uint16_t *kept_number_after, uint16_t *lost,
-                              size_t *written);
+                              size_t *written, uint8_t *edge);
 
 /*
  * The number and the move of a line of a log.
  *
- * Takes the line without its 0a, a place for its number and one for 71 numbers,
- * all of which are written as by stonefruitle_read_move. Refusals: 2 to 9, and
- * then *number and all 71 numbers are zero. Whether the line is in order is not
- * looked at.
+ * Takes the line without its 0a, a place for its number, one for 71 numbers, all
+ * of which are written as by stonefruitle_read_move, and one for an edge.
+ * Refusals: 2 to 9, and then *number and all 71 numbers are zero; with 8 and 9
+ * *edge is written. Whether the line is in order is not looked at.
  */
 uint8_t stonefruitle_read_log(const uint8_t *line, size_t line_length,
                               uint16_t *number,
-                              int64_t numbers[STONEFRUITLE_NUMBERS]);
+                              int64_t numbers[STONEFRUITLE_NUMBERS],
+                              uint8_t *edge);
 
 /*
  * Whether an outline is sound.
  *
- * Takes the outline's coordinates (length counts numbers) and writes nothing.
- * Refusals: 4 for the count of numbers, 7 for a coordinate out of range, 8
- * where the outline is not sound: some corner does not lie strictly to the
- * left of an edge that it is no end of.
+ * Takes the outline's coordinates (length counts numbers) and a place for an
+ * edge, and writes nothing else. Refusals: 4 for the count of numbers, 7 for a
+ * coordinate out of range, 8 where the outline is not sound: some corner does
+ * not lie strictly to the left of an edge that it is no end of. *edge is then
+ * the lowest such edge.
  */
-uint8_t stonefruitle_test_outline(const int64_t *coordinates, size_t length);
+uint8_t stonefruitle_test_outline(const int64_t *coordinates, size_t length,
+                                  uint8_t *edge);
 
 #ifdef __cplusplus
 }

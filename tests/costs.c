@@ -24,6 +24,7 @@ static uint8_t stack[STACK];
 static const char head[] = "030001"; /* what makes a line of a log of it */
 static uint8_t line[STONEFRUITLE_MOVE_ROOM], log_line[STONEFRUITLE_MOVE_ROOM + sizeof head], out[STONEFRUITLE_MOVE_ROOM];
 static size_t line_length, written;
+static uint8_t edge;
 static int64_t a[2 * CORNERS], b[2 * CORNERS], numbers[STONEFRUITLE_NUMBERS];
 static const size_t count = 2 * CORNERS;
 static int64_t vax, vay, vbx, vby, limit;
@@ -32,36 +33,37 @@ static int64_t vax, vay, vbx, vby, limit;
 
 static void call_nothing(void) {}
 
-static void call_answer_line(void) { stonefruitle_answer_line(line, line_length, out, sizeof out, &written); }
+static void call_answer_line(void) { stonefruitle_answer_line(line, line_length, out, sizeof out, &written, &edge); }
 
 static void call_answer_lists(void)
 {
-    stonefruitle_answer_lists(a, count, b, count, vax, vay, vbx, vby, limit, out, sizeof out, &written);
+    stonefruitle_answer_lists(a, count, b, count, vax, vay, vbx, vby, limit, out, sizeof out, &written, &edge);
 }
 
 static void call_write_move(void)
 {
-    stonefruitle_write_move(a, count, b, count, vax, vay, vbx, vby, limit, out, sizeof out, &written);
+    stonefruitle_write_move(a, count, b, count, vax, vay, vbx, vby, limit, out, sizeof out, &written, &edge);
 }
 
-static void call_read_line(void) { stonefruitle_read_line(line, line_length); }
+static void call_read_line(void) { stonefruitle_read_line(line, line_length, &edge); }
 
-static void call_read_move(void) { stonefruitle_read_move(line, line_length, numbers); }
+static void call_read_move(void) { stonefruitle_read_move(line, line_length, numbers, &edge); }
 
 static void call_log_step(void)
 {
     bool some;
     uint16_t number, lost;
-    stonefruitle_log_step(true, 0, log_line, line_length + strlen(head), out, sizeof out, &some, &number, &lost, &written);
+    stonefruitle_log_step(true, 0, log_line, line_length + strlen(head), out, sizeof out, &some, &number, &lost, &written,
+                          &edge);
 }
 
 static void call_read_log(void)
 {
     uint16_t number;
-    stonefruitle_read_log(log_line, line_length + strlen(head), &number, numbers);
+    stonefruitle_read_log(log_line, line_length + strlen(head), &number, numbers, &edge);
 }
 
-static void call_test_outline(void) { stonefruitle_test_outline(a, count); }
+static void call_test_outline(void) { stonefruitle_test_outline(a, count, &edge); }
 
 static const struct {
     const char *name;
@@ -125,7 +127,7 @@ static void measure_time(void)
     double fastest = 1e9;
     for (int i = 0; i < CALLS; i++) {
         double start = now();
-        stonefruitle_answer_line(line, line_length, out, sizeof out, &written);
+        stonefruitle_answer_line(line, line_length, out, sizeof out, &written, &edge);
         double took = now() - start;
         if (took < fastest)
             fastest = took;
@@ -144,7 +146,7 @@ static unsigned long measured, contacts;
 /* Measures the move that stands in the variables line and line_length, if it is one with twice 16 corners. */
 static void measure(void)
 {
-    if (stonefruitle_read_move(line, line_length, numbers) != 0)
+    if (stonefruitle_read_move(line, line_length, numbers, &edge) != 0)
         return;
     if (numbers[STONEFRUITLE_AT_COUNT_A] != CORNERS || numbers[STONEFRUITLE_AT_COUNT_B] != CORNERS)
         return;
@@ -179,7 +181,7 @@ static void measure_slivers(int turned)
             a[2 * k] = p[0], a[2 * k + 1] = p[1];
             b[2 * k] = -q[1], b[2 * k + 1] = q[0];
         }
-        if (stonefruitle_write_move(a, count, b, count, 3, 7, -8, 5, 9973, line, sizeof line, &written) != 0) {
+        if (stonefruitle_write_move(a, count, b, count, 3, 7, -8, 5, 9973, line, sizeof line, &written, &edge) != 0) {
             fprintf(stderr, "costs: a sliver is refused\n");
             exit(1);
         }

@@ -25,6 +25,7 @@ extern "C" {
         out: *mut u8,
         out_length: usize,
         written: *mut usize,
+        edge: *mut u8,
     ) -> u8;
     fn stonefruitle_answer_lists(
         a: *const i64,
@@ -39,6 +40,7 @@ extern "C" {
         out: *mut u8,
         out_length: usize,
         written: *mut usize,
+        edge: *mut u8,
     ) -> u8;
     fn stonefruitle_write_move(
         a: *const i64,
@@ -53,9 +55,15 @@ extern "C" {
         out: *mut u8,
         out_length: usize,
         written: *mut usize,
+        edge: *mut u8,
     ) -> u8;
-    fn stonefruitle_read_line(line: *const u8, line_length: usize) -> u8;
-    fn stonefruitle_read_move(line: *const u8, line_length: usize, numbers: *mut i64) -> u8;
+    fn stonefruitle_read_line(line: *const u8, line_length: usize, edge: *mut u8) -> u8;
+    fn stonefruitle_read_move(
+        line: *const u8,
+        line_length: usize,
+        numbers: *mut i64,
+        edge: *mut u8,
+    ) -> u8;
     fn stonefruitle_log_step(
         kept_some: bool,
         kept_number: u16,
@@ -67,14 +75,16 @@ extern "C" {
         kept_number_after: *mut u16,
         lost: *mut u16,
         written: *mut usize,
+        edge: *mut u8,
     ) -> u8;
     fn stonefruitle_read_log(
         line: *const u8,
         line_length: usize,
         number: *mut u16,
         numbers: *mut i64,
+        edge: *mut u8,
     ) -> u8;
-    fn stonefruitle_test_outline(coordinates: *const i64, length: usize) -> u8;
+    fn stonefruitle_test_outline(coordinates: *const i64, length: usize, edge: *mut u8) -> u8;
 }
 
 /// The least room for an answer line and for a move line, 0a included.
@@ -84,67 +94,85 @@ pub const MOVE_ROOM: usize = 283;
 /// How many numbers a read move is.
 pub const NUMBERS: usize = 71;
 
-/// Why a move is turned away. Of several that apply, the first is given.
+/// Why a move is turned away, with its number. Of several that apply, the first is given.
 #[derive(Clone, Copy, Debug, PartialEq, Eq, PartialOrd, Ord)]
-#[repr(u8)]
 pub enum Refusal {
-    /// Too few bytes lent for the line.
-    Room = 1,
-    /// A line that is empty, odd in length, over 282 digits (288 in a log), or with another character than 0-9 and a-f.
-    Digits = 2,
-    /// A line whose first byte is not 01; in a log, not 03, or a fourth byte is there and is not 01.
-    Kind = 3,
-    /// A count of corners outside 3 to 16, a list of odd length, or a line of another length than its counts ask for.
-    Count = 4,
-    /// The limit is outside 0 to 10,000.
-    Limit = 5,
-    /// A velocity component is outside -10,000 to 10,000.
-    Speed = 6,
-    /// A coordinate is outside -10,000 to 10,000.
-    Place = 7,
-    /// The first outline is not sound.
-    First = 8,
-    /// The second outline is not sound.
-    Second = 9,
-    /// A line of a log whose number does not follow the kept one.
-    Order = 10,
+    /// 1: too few bytes lent for the line.
+    Room,
+    /// 2: a line that is empty, odd in length, over 282 digits (288 in a log), or with another character than 0-9 and a-f.
+    Digits,
+    /// 3: a line whose first byte is not 01; in a log, not 03, or a fourth byte is there and is not 01.
+    Kind,
+    /// 4: a count of corners outside 3 to 16, a list of odd length, or a line of another length than its counts ask for.
+    Count,
+    /// 5: the limit is outside 0 to 10,000.
+    Limit,
+    /// 6: a velocity component is outside -10,000 to 10,000.
+    Speed,
+    /// 7: a coordinate is outside -10,000 to 10,000.
+    Place,
+    /// 8: the first outline is not sound. This is its lowest edge that has a corner, other than its two ends, not strictly to
+    /// its left; edge i runs from corner i to the next, the last to corner 0.
+    First(u8),
+    /// 9: the second outline is not sound, likewise.
+    Second(u8),
+    /// 10: a line of a log whose number does not follow the kept one.
+    Order,
 }
 
 impl Refusal {
-    const ALL: [Refusal; 10] = [
-        Refusal::Room,
-        Refusal::Digits,
-        Refusal::Kind,
-        Refusal::Count,
-        Refusal::Limit,
-        Refusal::Speed,
-        Refusal::Place,
-        Refusal::First,
-        Refusal::Second,
-        Refusal::Order,
-    ];
-
     pub fn number(self) -> u8 {
-        self as u8
+        match self {
+            Refusal::Room => 1,
+            Refusal::Digits => 2,
+            Refusal::Kind => 3,
+            Refusal::Count => 4,
+            Refusal::Limit => 5,
+            Refusal::Speed => 6,
+            Refusal::Place => 7,
+            Refusal::First(_) => 8,
+            Refusal::Second(_) => 9,
+            Refusal::Order => 10,
+        }
     }
 
-    /// The refusal of a number from 1 to 10.
-    pub fn of_number(number: u8) -> Option<Refusal> {
-        Refusal::ALL.into_iter().find(|r| r.number() == number)
+    /// The edge that is wrong, with `First` and `Second`.
+    pub fn edge(self) -> Option<u8> {
+        match self {
+            Refusal::First(edge) | Refusal::Second(edge) => Some(edge),
+            _ => None,
+        }
     }
 
-    /// What a call returned: no refusal for 0. The library returns no number above 10.
-    fn returned(number: u8) -> Option<Refusal> {
+    /// The refusal of a number from 1 to 10, with the edge that stands beside 8 and 9; it is not looked at beside the others.
+    fn of(number: u8, edge: u8) -> Option<Refusal> {
+        match number {
+            1 => Some(Refusal::Room),
+            2 => Some(Refusal::Digits),
+            3 => Some(Refusal::Kind),
+            4 => Some(Refusal::Count),
+            5 => Some(Refusal::Limit),
+            6 => Some(Refusal::Speed),
+            7 => Some(Refusal::Place),
+            8 => Some(Refusal::First(edge)),
+            9 => Some(Refusal::Second(edge)),
+            10 => Some(Refusal::Order),
+            _ => None,
+        }
+    }
+
+    /// What a call returned and left as the edge: no refusal for 0. The library returns no number above 10.
+    fn returned(number: u8, edge: u8) -> Option<Refusal> {
         match number {
             0 => None,
-            n => Some(Refusal::of_number(n).expect("a refusal is from 1 to 10")),
+            n => Some(Refusal::of(n, edge).expect("a refusal is from 1 to 10")),
         }
     }
 }
 
 impl fmt::Display for Refusal {
     fn fmt(&self, f: &mut fmt::Formatter) -> fmt::Result {
-        f.write_str(match self {
+        let why = match self {
             Refusal::Room => "too few bytes lent for the line",
             Refusal::Digits => "the line is not one of whole hexadecimal bytes",
             Refusal::Kind => "the line is not a move",
@@ -152,10 +180,17 @@ impl fmt::Display for Refusal {
             Refusal::Limit => "the limit is out of range",
             Refusal::Speed => "a velocity is out of range",
             Refusal::Place => "a coordinate is out of range",
-            Refusal::First => "the first outline is not sound",
-            Refusal::Second => "the second outline is not sound",
+            Refusal::First(_) => "the first outline is not sound",
+            Refusal::Second(_) => "the second outline is not sound",
             Refusal::Order => "the line of the log is out of order",
-        })
+        };
+        match self.edge() {
+            None => f.write_str(why),
+            Some(edge) => write!(
+                f,
+                "{why}: a corner is not strictly to the left of its edge {edge}"
+            ),
+        }
     }
 }
 
@@ -285,7 +320,8 @@ impl Answer {
                     showing,
                 }))
             }
-            [0x81, 0xff, r] => Refusal::of_number(r).map(Err),
+            [0x81, 0xff, r, edge] if r == 8 || r == 9 => Refusal::of(r, edge).map(Err),
+            [0x81, 0xff, r] if r != 8 && r != 9 => Refusal::of(r, 0).map(Err),
             _ => None,
         }
     }
@@ -358,8 +394,10 @@ pub fn write_move(m: &Move) -> Result<Vec<u8>, Refusal> {
 
 /// Whether a line, which stands without its 0a, is a move. `Ok` says nothing of whether the outlines meet.
 pub fn read_line(line: &[u8]) -> Result<(), Refusal> {
-    // The library reads `line.len()` bytes at the pointer and keeps nothing.
-    accepted(unsafe { stonefruitle_read_line(line.as_ptr(), line.len()) })
+    let mut edge = 0;
+    // The library reads `line.len()` bytes at the pointer, writes at most the edge, and keeps nothing.
+    let refusal = unsafe { stonefruitle_read_line(line.as_ptr(), line.len(), &mut edge) };
+    accepted(refusal, edge)
 }
 
 /// The move of a line, which stands without its 0a.
@@ -380,17 +418,23 @@ pub fn read_log(line: &[u8]) -> Result<(u16, ReadMove), Refusal> {
     }
 }
 
-/// Whether a list of coordinates x, y, x, y, .. is a sound outline; refused with `Count`, `Place` or `First`.
+/// Whether a list of coordinates x, y, x, y, .. is a sound outline; refused with `Count`, `Place` or `First`, which
+/// says which edge is wrong.
 pub fn test_outline(coordinates: &[i64]) -> Result<(), Refusal> {
-    accepted(unsafe { stonefruitle_test_outline(coordinates.as_ptr(), coordinates.len()) })
+    let mut edge = 0;
+    let (list, length) = (coordinates.as_ptr(), coordinates.len());
+    let refusal = unsafe { stonefruitle_test_outline(list, length, &mut edge) };
+    accepted(refusal, edge)
 }
 
 /// The move of a line as 71 numbers, all of which are written: limit, velocity of A, velocity of B, count of A, count of B,
 /// the coordinates of A's sixteen places, those of B's. Where the line is refused they are all zero.
 pub fn read_move_into(line: &[u8], numbers: &mut [i64; NUMBERS]) -> Option<Refusal> {
-    Refusal::returned(unsafe {
-        stonefruitle_read_move(line.as_ptr(), line.len(), numbers.as_mut_ptr())
-    })
+    let mut edge = 0;
+    let refusal = unsafe {
+        stonefruitle_read_move(line.as_ptr(), line.len(), numbers.as_mut_ptr(), &mut edge)
+    };
+    Refusal::returned(refusal, edge)
 }
 
 /// The number of a line of a log and its move as 71 numbers, likewise; the number is zero too where the line is refused.
@@ -399,16 +443,24 @@ pub fn read_log_into(
     number: &mut u16,
     numbers: &mut [i64; NUMBERS],
 ) -> Option<Refusal> {
-    Refusal::returned(unsafe {
-        stonefruitle_read_log(line.as_ptr(), line.len(), number, numbers.as_mut_ptr())
-    })
+    let mut edge = 0;
+    let refusal = unsafe {
+        stonefruitle_read_log(
+            line.as_ptr(),
+            line.len(),
+            number,
+            numbers.as_mut_ptr(),
+            &mut edge,
+        )
+    };
+    Refusal::returned(refusal, edge)
 }
 
 /// The answer line to a line of a log, into a lent buffer. `Room` writes nothing; the other refusals write the refusal
 /// line. Any refusal leaves what is kept as it is.
 pub fn log_step_into(kept: Kept, line: &[u8], out: &mut [u8]) -> LogWritten {
-    let (mut some, mut number, mut lost, mut bytes) = (false, 0, 0, 0);
-    // As below; besides, the library writes the four places.
+    let (mut some, mut number, mut lost, mut bytes, mut edge) = (false, 0, 0, 0, 0);
+    // As below; besides, the library writes the other places.
     let refusal = unsafe {
         stonefruitle_log_step(
             kept.is_some(),
@@ -421,11 +473,12 @@ pub fn log_step_into(kept: Kept, line: &[u8], out: &mut [u8]) -> LogWritten {
             &mut number,
             &mut lost,
             &mut bytes,
+            &mut edge,
         )
     };
     LogWritten {
         written: Written {
-            refusal: Refusal::returned(refusal),
+            refusal: Refusal::returned(refusal, edge),
             bytes,
         },
         kept: some.then_some(number),
@@ -435,8 +488,8 @@ pub fn log_step_into(kept: Kept, line: &[u8], out: &mut [u8]) -> LogWritten {
 
 /// The answer line to a move line, into a lent buffer. `Room` writes nothing; the other refusals write the refusal line.
 pub fn answer_line_into(line: &[u8], out: &mut [u8]) -> Written {
-    let mut bytes = 0;
-    // The library reads `line.len()` bytes, writes at most `out.len()` bytes and one count, and keeps nothing;
+    let (mut bytes, mut edge) = (0, 0);
+    // The library reads `line.len()` bytes, writes at most `out.len()` bytes, one count and one edge, and keeps nothing;
     // that the two buffers do not overlap is what their types say.
     let refusal = unsafe {
         stonefruitle_answer_line(
@@ -445,10 +498,11 @@ pub fn answer_line_into(line: &[u8], out: &mut [u8]) -> Written {
             out.as_mut_ptr(),
             out.len(),
             &mut bytes,
+            &mut edge,
         )
     };
     Written {
-        refusal: Refusal::returned(refusal),
+        refusal: Refusal::returned(refusal, edge),
         bytes,
     }
 }
@@ -477,10 +531,11 @@ type FromLists = unsafe extern "C" fn(
     *mut u8,
     usize,
     *mut usize,
+    *mut u8,
 ) -> u8;
 
 fn into(call: FromLists, m: &Move, out: &mut [u8]) -> Written {
-    let mut bytes = 0;
+    let (mut bytes, mut edge) = (0, 0);
     // As above: the lengths are those of the lists and of the buffer.
     let refusal = unsafe {
         call(
@@ -496,16 +551,17 @@ fn into(call: FromLists, m: &Move, out: &mut [u8]) -> Written {
             out.as_mut_ptr(),
             out.len(),
             &mut bytes,
+            &mut edge,
         )
     };
     Written {
-        refusal: Refusal::returned(refusal),
+        refusal: Refusal::returned(refusal, edge),
         bytes,
     }
 }
 
-fn accepted(number: u8) -> Result<(), Refusal> {
-    match Refusal::returned(number) {
+fn accepted(number: u8, edge: u8) -> Result<(), Refusal> {
+    match Refusal::returned(number, edge) {
         Some(refusal) => Err(refusal),
         None => Ok(()),
     }

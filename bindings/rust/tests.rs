@@ -1,5 +1,6 @@
 //! Tests of the linked library through `stonefruitle.rs`: the paper's twelve cases, many moves and logs compared with the
-//! independent program, and the lent bytes that must stay. `tests/linked` builds and runs them.
+//! independent program, and the lent bytes that must stay, the place for an edge among them. `tests/linked` builds and runs
+//! them.
 
 #[allow(dead_code)]
 #[path = "../../independent/src/checker.rs"]
@@ -17,16 +18,17 @@ mod log;
 #[path = "../../independent/src/runs.rs"]
 mod runs;
 
-use checker::{is_sound, point, verdict, Point, Verdict};
-use generate::{Rng, Set, AT_ZERO, BASE};
-use runs::{Log, LOG};
+use checker::{lowest_bad_edge, point, verdict, Point, Verdict};
+use generate::{Rng, Set, AT_ZERO, BAD_EDGES, BASE};
+use runs::{Log, LOG, LOG_BAD_EDGES};
 use stonefruitle::*;
 
 const SEED: u64 = 20_261;
 const COUNT: u64 = 50_000;
 
-/// So many logs, and so many lines of each.
+/// So many logs, of request Q-3 fewer, and so many lines of each.
 const LOGS: u64 = 2_000;
+const BAD_LOGS: u64 = 500;
 const LINES: usize = 50;
 
 /// What lent bytes hold beforehand. No line has such a byte.
@@ -199,8 +201,8 @@ fn cases() -> Vec<Case> {
             S.to_vec(),
             (0, 0),
             10,
-            Err(Refusal::First),
-            "81ff08",
+            Err(Refusal::First(0)),
+            "81ff0800",
         ),
     ]
 }
@@ -221,7 +223,7 @@ fn twelve_cases_from_lists() {
             written,
             &out,
             case.line.as_bytes(),
-            number(case.answer),
+            case.answer.err(),
         );
         assert_eq!(answer_lists(&case.asked()), case.answer, "{}", case.name);
     }
@@ -238,7 +240,7 @@ fn twelve_cases_from_lines() {
             written,
             &out,
             case.line.as_bytes(),
-            number(case.answer),
+            case.answer.err(),
         );
         assert_eq!(answer_line(line), case.answer, "{}", case.name);
         assert_eq!(read_line(line).err(), case.answer.err(), "{}", case.name);
@@ -309,8 +311,29 @@ fn outlines_of_the_cases() {
 // ---------------------------------------------------------------------------
 // What the tests share
 
-fn number<T>(answer: Result<T, Refusal>) -> u8 {
-    answer.map_or_else(Refusal::number, |_| 0)
+/// A refusal of the independent program as the library has it, with its edge.
+fn refused(refusal: frame::Refusal) -> Refusal {
+    match refusal {
+        frame::Refusal::Digits => Refusal::Digits,
+        frame::Refusal::Kind => Refusal::Kind,
+        frame::Refusal::Count => Refusal::Count,
+        frame::Refusal::Limit => Refusal::Limit,
+        frame::Refusal::Speed => Refusal::Speed,
+        frame::Refusal::Place => Refusal::Place,
+        frame::Refusal::First(edge) => Refusal::First(edge as u8),
+        frame::Refusal::Second(edge) => Refusal::Second(edge as u8),
+        frame::Refusal::Order => Refusal::Order,
+    }
+}
+
+/// That of an answer, if it is one.
+fn refusal_of<T>(answer: &Result<T, frame::Refusal>) -> Option<Refusal> {
+    answer.as_ref().err().map(|refusal| refused(*refusal))
+}
+
+/// The place of a refusal in a list of counts; 0 is that of none.
+fn place_of(refusal: Option<Refusal>) -> usize {
+    refusal.map_or(0, |refusal| refusal.number().into())
 }
 
 /// A call with so many bytes lent, and the bytes afterwards.
@@ -321,12 +344,14 @@ fn asked(call: impl Fn(&mut [u8]) -> Written, room: usize) -> (Written, Vec<u8>)
 }
 
 /// The line with its 0a stands at the start, the bytes after it as they were.
-fn assert_answered(what: &str, written: Written, out: &[u8], line: &[u8], refusal: u8) {
-    assert_eq!(
-        written.refusal.map_or(0, Refusal::number),
-        refusal,
-        "{what}"
-    );
+fn assert_answered(
+    what: &str,
+    written: Written,
+    out: &[u8],
+    line: &[u8],
+    refusal: Option<Refusal>,
+) {
+    assert_eq!(written.refusal, refusal, "{what}");
     let closed = [line, b"\n"].concat();
     assert_eq!(written.bytes, closed.len(), "{what}");
     assert_eq!(shown(&out[..written.bytes]), shown(&closed), "{what}");
@@ -336,12 +361,8 @@ fn assert_answered(what: &str, written: Written, out: &[u8], line: &[u8], refusa
     );
 }
 
-fn assert_nothing_written(what: &str, written: Written, out: &[u8], refusal: u8) {
-    assert_eq!(
-        written.refusal.map_or(0, Refusal::number),
-        refusal,
-        "{what}"
-    );
+fn assert_nothing_written(what: &str, written: Written, out: &[u8], refusal: Refusal) {
+    assert_eq!(written.refusal, Some(refusal), "{what}");
     assert_eq!(written.bytes, 0, "{what}");
     assert!(out.iter().all(|b| *b == BEFORE), "{what}: a byte changed");
 }
@@ -406,7 +427,7 @@ fn corners(list: &[i64]) -> Vec<Point> {
         .collect()
 }
 
-fn expected(m: &Lists) -> Result<checker::Move, u8> {
+fn expected(m: &Lists) -> Result<checker::Move, frame::Refusal> {
     let pair = |(x, y): (i64, i64)| point(x.into(), y.into());
     let speeds = [
         m.velocity_a.0,
@@ -415,22 +436,22 @@ fn expected(m: &Lists) -> Result<checker::Move, u8> {
         m.velocity_b.1,
     ];
     if !counted(&m.a) || !counted(&m.b) {
-        return Err(4);
+        return Err(frame::Refusal::Count);
     }
     if !(0..=10_000).contains(&m.limit) {
-        return Err(5);
+        return Err(frame::Refusal::Limit);
     }
     if !speeds.into_iter().all(in_range) {
-        return Err(6);
+        return Err(frame::Refusal::Speed);
     }
     if !m.a.iter().chain(&m.b).all(|n| in_range(*n)) {
-        return Err(7);
+        return Err(frame::Refusal::Place);
     }
-    if !is_sound(&corners(&m.a)) {
-        return Err(8);
+    if let Some(edge) = lowest_bad_edge(&corners(&m.a)) {
+        return Err(frame::Refusal::First(edge));
     }
-    if !is_sound(&corners(&m.b)) {
-        return Err(9);
+    if let Some(edge) = lowest_bad_edge(&corners(&m.b)) {
+        return Err(frame::Refusal::Second(edge));
     }
     Ok(checker::Move {
         limit: m.limit.into(),
@@ -441,22 +462,20 @@ fn expected(m: &Lists) -> Result<checker::Move, u8> {
     })
 }
 
-fn expected_of_outline(list: &[i64]) -> u8 {
+fn expected_of_outline(list: &[i64]) -> Option<Refusal> {
     if !counted(list) {
-        4
+        Some(Refusal::Count)
     } else if !list.iter().all(|n| in_range(*n)) {
-        7
-    } else if !is_sound(&corners(list)) {
-        8
+        Some(Refusal::Place)
     } else {
-        0
+        lowest_bad_edge(&corners(list)).map(|edge| Refusal::First(edge as u8))
     }
 }
 
 /// The 71 numbers of the move of a line.
-fn expected_numbers(m: &Result<checker::Move, u8>) -> [i64; NUMBERS] {
+fn expected_numbers(m: Option<&checker::Move>) -> [i64; NUMBERS] {
     let mut numbers = [0; NUMBERS];
-    if let Ok(m) = m {
+    if let Some(m) = m {
         let lists = Lists::of(m);
         let (va, vb) = (lists.velocity_a, lists.velocity_b);
         let counts = (m.a.len() as i64, m.b.len() as i64);
@@ -468,9 +487,9 @@ fn expected_numbers(m: &Result<checker::Move, u8>) -> [i64; NUMBERS] {
 }
 
 /// Holds every call that takes lists to what is expected.
-fn check_lists(what: &str, m: &Lists, extra: usize) -> Result<Verdict, u8> {
+fn check_lists(what: &str, m: &Lists, extra: usize) -> Result<Verdict, frame::Refusal> {
     let expected = expected(m);
-    let refusal = expected.as_ref().err().copied().unwrap_or(0);
+    let refusal = refusal_of(&expected);
     let answer = expected.as_ref().map(verdict).map_err(|r| *r);
 
     let (written, out) = asked(
@@ -481,24 +500,25 @@ fn check_lists(what: &str, m: &Lists, extra: usize) -> Result<Verdict, u8> {
 
     let (written, out) = asked(|out| write_move_into(&m.asked(), out), MOVE_ROOM + extra);
     match &expected {
-        Ok(moved) => assert_answered(what, written, &out, &frame::write_move(moved), 0),
-        Err(refusal) => assert_nothing_written(what, written, &out, *refusal),
+        Ok(moved) => assert_answered(what, written, &out, &frame::write_move(moved), None),
+        Err(refusal) => assert_nothing_written(what, written, &out, refused(*refusal)),
     }
 
     for list in [&m.a, &m.b] {
-        assert_eq!(
-            number(test_outline(list)),
-            expected_of_outline(list),
-            "{what}"
-        );
+        let expected = expected_of_outline(list);
+        assert_eq!(test_outline(list).err(), expected, "{what}");
+        assert_edge(what, expected, extra, |edge| unsafe {
+            stonefruitle_test_outline(list.as_ptr(), list.len(), edge)
+        });
     }
+    check_edges_of_lists(what, m, refusal, extra);
     answer
 }
 
 // ---------------------------------------------------------------------------
 // Many moves
 
-/// Lines of a set of classes; those that are moves also as lists. How often each refusal came up.
+/// Lines of a set of classes; those that are moves also as lists, sound or not. How often each refusal came up.
 fn check_lines(set: Set) -> [u64; 10] {
     let mut counts = [0; 10];
     for place in 0..COUNT {
@@ -506,28 +526,41 @@ fn check_lines(set: Set) -> [u64; 10] {
         let line = generate::line(SEED, place, class);
         let what = format!("seed {SEED}, place {place}, {class:?}: {}", shown(&line));
         let answer = frame::answer(&line);
-        let refusal = answer.as_ref().err().copied().unwrap_or(0);
-        counts[refusal as usize] += 1;
+        let refusal = refusal_of(&answer);
+        counts[place_of(refusal)] += 1;
 
         let extra = place as usize % 40;
         let (written, out) = asked(|out| answer_line_into(&line, out), ANSWER_ROOM + extra);
         assert_answered(&what, written, &out, &frame::write_answer(&answer), refusal);
-        assert_eq!(number(read_line(&line)), refusal, "{what}");
-        assert_eq!(number(answer_line(&line)), refusal, "{what}");
+        assert_eq!(read_line(&line).err(), refusal, "{what}");
+        assert_eq!(answer_line(&line).err(), refusal, "{what}");
+        check_edges_of_line(&what, &line, refusal, extra);
 
         let read = frame::read_move(&line);
         let mut numbers = [i64::MIN; NUMBERS];
-        let returned = read_move_into(&line, &mut numbers);
-        assert_eq!(returned.map_or(0, Refusal::number), refusal, "{what}");
-        assert_eq!(numbers, expected_numbers(&read), "{what}");
+        assert_eq!(read_move_into(&line, &mut numbers), refusal, "{what}");
+        assert_eq!(numbers, expected_numbers(read.as_ref().ok()), "{what}");
 
-        if let Ok(m) = read {
+        if let Some(m) = fields(&line, refusal) {
             let lists = Lists::of(&m);
             assert_eq!(check_lists(&what, &lists, extra), answer, "{what}");
-            assert_eq!(read_move(&line).unwrap().as_move(), lists.asked(), "{what}");
+            let moved = read_move(&line);
+            let moved = moved.as_ref().map(ReadMove::as_move).map_err(|r| *r);
+            assert_eq!(moved, refusal.map_or(Ok(lists.asked()), Err), "{what}");
         }
     }
     counts
+}
+
+/// The move of a line in which nothing is wrong but perhaps an outline.
+fn fields(line: &[u8], refusal: Option<Refusal>) -> Option<checker::Move> {
+    match refusal {
+        None | Some(Refusal::First(_) | Refusal::Second(_)) => {
+            let bytes = frame::bytes_of(line, frame::MOST_DIGITS)?;
+            frame::read_fields(&bytes).ok()
+        }
+        _ => None,
+    }
 }
 
 /// Lines of every class of document 01, the damaged among them.
@@ -547,6 +580,14 @@ fn random_lines_at_zero() {
     assert_eq!(check_lines(AT_ZERO)[0], COUNT);
 }
 
+/// Lines of the classes of request Q-3, which are all refused with an edge.
+#[test]
+fn random_lines_with_a_bad_edge() {
+    let counts = check_lines(BAD_EDGES);
+    assert!(counts[8] > 0 && counts[9] > 0);
+    assert_eq!(counts[8] + counts[9], COUNT);
+}
+
 /// Lists of a set of classes, none of them refused, with something changed: what no line can say is here, as an odd length
 /// or a number of 64 bits.
 fn check_changed_lists(set: Set) {
@@ -560,7 +601,7 @@ fn check_changed_lists(set: Set) {
         }
         let what = format!("seed {}, place {place}: {m:?}", SEED + 1);
         let answer = check_lists(&what, &m, place as usize % 40);
-        counts[answer.err().unwrap_or(0) as usize] += 1;
+        counts[place_of(refusal_of(&answer))] += 1;
     }
     println!("random lists by refusal: {counts:?}");
     assert!(
@@ -637,7 +678,7 @@ fn log_lines() -> Vec<&'static [u8]> {
 /// One step after any number, with all that it leaves, and with too little room.
 fn check_step(what: &str, kept: Kept, line: &[u8], extra: usize) -> log::Step {
     let expected = log::step(kept, line);
-    let refusal = expected.answer.err().unwrap_or(0);
+    let refusal = refusal_of(&expected.answer);
 
     let mut out = vec![BEFORE; ANSWER_ROOM + extra];
     let step = log_step_into(kept, line, &mut out);
@@ -652,11 +693,12 @@ fn check_step(what: &str, kept: Kept, line: &[u8], extra: usize) -> log::Step {
     let room = extra.min(ANSWER_ROOM - 1);
     let mut out = vec![BEFORE; room];
     let step = log_step_into(kept, line, &mut out);
-    assert_nothing_written(what, step.written, &out, 1);
+    assert_nothing_written(what, step.written, &out, Refusal::Room);
     assert_eq!((step.kept, step.lost), (kept, 0), "{what}");
 
     let step = log_step(kept, line);
-    assert_eq!(number(step.answer), refusal, "{what}");
+    assert_eq!(step.answer.err(), refusal, "{what}");
+    check_edges_of_step(what, kept, line, refusal, extra);
     assert_eq!(
         (step.kept, step.lost),
         (expected.kept, expected.lost),
@@ -668,12 +710,17 @@ fn check_step(what: &str, kept: Kept, line: &[u8], extra: usize) -> log::Step {
 /// The reader of log lines, which asks nothing of the order; and the bare line in a log line.
 fn check_read_log(what: &str, line: &[u8]) -> Option<u16> {
     let expected = log::read_log(line);
-    let refusal = expected.as_ref().err().copied().unwrap_or(0);
+    let refusal = refusal_of(&expected);
     let (mut number, mut numbers) = (0xa5a5, [i64::MIN; NUMBERS]);
     let returned = read_log_into(line, &mut number, &mut numbers);
-    assert_eq!(returned.map_or(0, Refusal::number), refusal, "{what}");
-    let moved = expected.as_ref().map(|(_, m)| m.clone()).map_err(|r| *r);
-    assert_eq!(numbers, expected_numbers(&moved), "{what}");
+    assert_eq!(returned, refusal, "{what}");
+    let moved = expected.as_ref().ok().map(|(_, m)| m);
+    assert_eq!(numbers, expected_numbers(moved), "{what}");
+    assert_edge(what, refusal, line.len(), |edge| unsafe {
+        let (mut number, mut numbers) = (0, [0; NUMBERS]);
+        let (line, length) = (line.as_ptr(), line.len());
+        stonefruitle_read_log(line, length, &mut number, numbers.as_mut_ptr(), edge)
+    });
     assert_eq!(number, expected.as_ref().map_or(0, |(n, _)| *n), "{what}");
 
     match (read_log(line), expected) {
@@ -687,7 +734,7 @@ fn check_read_log(what: &str, line: &[u8]) -> Option<u16> {
             Some(number)
         }
         (Err(given), Err(refusal)) => {
-            assert_eq!(given.number(), refusal, "{what}");
+            assert_eq!(given, refused(refusal), "{what}");
             None
         }
         _ => panic!("{what}: one reads it and one does not"),
@@ -696,20 +743,20 @@ fn check_read_log(what: &str, line: &[u8]) -> Option<u16> {
 
 /// Random logs. Each line is asked after the lines before it, and where it has a number, also after those from which it is
 /// next, farthest forward, and out of order.
-#[test]
-fn random_logs() {
+fn check_logs(set: runs::Set, logs: u64) -> [u64; 11] {
     let mut counts = [0u64; 11];
     let mut lost = 0;
-    for run in 0..LOGS {
+    for run in 0..logs {
         let mut kept = None;
-        for (place, (class, line)) in Log::new(SEED + run, LOG).take(LINES).enumerate() {
+        for (place, (class, line)) in Log::new(SEED + run, set).take(LINES).enumerate() {
             let extra = (place + run as usize) % 60;
             let what = format!("seed {}, place {place}, {class:?}", SEED + run);
             let what = format!("{what}, after {kept:?}: {}", shown(&line));
             let expected = check_step(&what, kept, &line, extra);
-            counts[expected.answer.err().unwrap_or(0) as usize] += 1;
+            counts[place_of(refusal_of(&expected.answer))] += 1;
             lost += u64::from(expected.lost);
-            assert_eq!(number(read_line(&line)), number_of(&line), "{what}");
+            let bare = refusal_of(&frame::answer(&line));
+            assert_eq!(read_line(&line).err(), bare, "{what}");
 
             if let Some(number) = check_read_log(&what, &line) {
                 for by in [0, 1, 2, 32_767, 32_768, 65_535] {
@@ -724,15 +771,23 @@ fn random_logs() {
         }
     }
     println!("random logs by refusal: {counts:?}, {lost} lines lost");
+    counts
+}
+
+#[test]
+fn random_logs() {
+    let counts = check_logs(LOG, LOGS);
     assert!(
         counts[0] > 0 && counts[2..].iter().all(|n| *n > 0),
         "a refusal did not come up: {counts:?}"
     );
 }
 
-/// What a bare line is refused with.
-fn number_of(line: &[u8]) -> u8 {
-    frame::answer(line).err().unwrap_or(0)
+/// Logs of request Q-3, most of whose lines are refused with an edge.
+#[test]
+fn random_logs_with_a_bad_edge() {
+    let counts = check_logs(LOG_BAD_EDGES, BAD_LOGS);
+    assert!([0, 8, 9, 10].iter().all(|r| counts[*r] > 0), "{counts:?}");
 }
 
 /// The stored log, with each room for an answer that is too little.
@@ -752,7 +807,7 @@ fn the_stored_log() {
         kept = step.kept;
         lost += u32::from(step.lost);
     }
-    assert_eq!((log_lines().len(), answers.len()), (23, 23));
+    assert_eq!((log_lines().len(), answers.len()), (24, 24));
     assert_eq!((kept, lost), (Some(0x8004), 32_769));
 }
 
@@ -768,29 +823,13 @@ fn every_difference() {
             // From the kept number up, round the rollover.
             let difference = (number + 65_536 - usize::from(kept)) % 65_536;
             let expected = match difference {
-                1..=32_767 => (0, Some(number as u16), difference as u16 - 1),
-                _ => (10, Some(kept), 0),
+                1..=32_767 => (None, Some(number as u16), difference as u16 - 1),
+                _ => (Some(Refusal::Order), Some(kept), 0),
             };
-            let given = (crate::number(step.answer), step.kept, step.lost);
+            let given = (step.answer.err(), step.kept, step.lost);
             assert_eq!(given, expected, "{number} after {kept}");
         }
     }
-}
-
-extern "C" {
-    /// As `stonefruitle.rs` has it.
-    fn stonefruitle_log_step(
-        kept_some: bool,
-        kept_number: u16,
-        line: *const u8,
-        line_length: usize,
-        out: *mut u8,
-        out_length: usize,
-        kept_some_after: *mut bool,
-        kept_number_after: *mut u16,
-        lost: *mut u16,
-        written: *mut usize,
-    ) -> u8;
 }
 
 /// What C can hand in and the wrapper does not: a number beside "none is kept". It is not looked at and not handed on.
@@ -802,7 +841,8 @@ fn a_number_that_is_not_kept() {
             kept = kept.wrapping_mul(31_421).wrapping_add(6_927);
             let expected = log::step(None, line);
             let mut out = [BEFORE; ANSWER_ROOM];
-            let (mut some, mut number, mut lost, mut written) = (true, 0xa5a5, 0xa5a5, 77);
+            let (mut some, mut number, mut lost, mut written, mut edge) =
+                (true, 0xa5a5, 0xa5a5, 77, BEFORE);
             let refusal = unsafe {
                 stonefruitle_log_step(
                     false,
@@ -815,6 +855,7 @@ fn a_number_that_is_not_kept() {
                     &mut number,
                     &mut lost,
                     &mut written,
+                    &mut edge,
                 )
             };
             let after = match room {
@@ -829,10 +870,15 @@ fn a_number_that_is_not_kept() {
             );
             assert_eq!(lost, 0, "{what}");
             if room < ANSWER_ROOM {
-                assert_eq!((refusal, written), (1, 0), "{what}");
+                assert_eq!((refusal, written, edge), (1, 0, BEFORE), "{what}");
                 assert_eq!(out, [BEFORE; ANSWER_ROOM], "{what}");
             } else {
-                assert_eq!(refusal, expected.answer.err().unwrap_or(0), "{what}");
+                let expected = refusal_of(&expected.answer);
+                assert_eq!(usize::from(refusal), place_of(expected), "{what}");
+                let named = expected.and_then(Refusal::edge);
+                assert_eq!(edge, named.unwrap_or(BEFORE), "{what}");
+            }
+            if room == ANSWER_ROOM {
                 let line = [frame::write_answer(&expected.answer), b"\n".to_vec()].concat();
                 assert_eq!(shown(&out[..written]), shown(&line), "{what}");
             }
@@ -851,7 +897,7 @@ fn room() {
     for line in lines.iter().copied().chain(damaged) {
         for room in 0..ANSWER_ROOM {
             let (written, out) = asked(|out| answer_line_into(line, out), room);
-            assert_nothing_written(&shown(line), written, &out, 1);
+            assert_nothing_written(&shown(line), written, &out, Refusal::Room);
         }
         let (written, out) = asked(|out| answer_line_into(line, out), ANSWER_ROOM);
         let answer = frame::answer(line);
@@ -860,18 +906,18 @@ fn room() {
             written,
             &out,
             &frame::write_answer(&answer),
-            answer.err().unwrap_or(0),
+            refusal_of(&answer),
         );
     }
     for case in cases() {
         let m = case.asked();
         for room in 0..ANSWER_ROOM {
             let (written, out) = asked(|out| answer_lists_into(&m, out), room);
-            assert_nothing_written(case.name, written, &out, 1);
+            assert_nothing_written(case.name, written, &out, Refusal::Room);
         }
         for room in 0..MOVE_ROOM {
             let (written, out) = asked(|out| write_move_into(&m, out), room);
-            assert_nothing_written(case.name, written, &out, 1);
+            assert_nothing_written(case.name, written, &out, Refusal::Room);
         }
     }
 }
@@ -898,9 +944,220 @@ fn empty_lists() {
 #[test]
 fn other_lines_are_no_answers() {
     let lines = [
-        "", "81", "8100", "810001 ", "8102", "81ff00", "81ff0b", "820001", "81000101",
+        "",
+        "81",
+        "8100",
+        "810001 ",
+        "8102",
+        "81ff00",
+        "81ff0b",
+        "820001",
+        "81000101",
+        // 8 and 9 come with an edge, the others without.
+        "81ff08",
+        "81ff09",
+        "81ff080000",
+        "81ff0200",
+        "81ff0700",
+        "81ff0a00",
     ];
     for line in lines {
         assert_eq!(Answer::of_line(line.as_bytes()), None, "{line}");
+    }
+}
+
+/// Each refusal line says its refusal.
+#[test]
+fn refusal_lines() {
+    let refusals = [
+        ("81ff01", Refusal::Room),
+        ("81ff02", Refusal::Digits),
+        ("81ff03", Refusal::Kind),
+        ("81ff04", Refusal::Count),
+        ("81ff05", Refusal::Limit),
+        ("81ff06", Refusal::Speed),
+        ("81ff07", Refusal::Place),
+        ("81ff0800", Refusal::First(0)),
+        ("81ff080e", Refusal::First(14)),
+        ("81ff0901", Refusal::Second(1)),
+        ("81ff0a", Refusal::Order),
+    ];
+    for (line, refusal) in refusals {
+        assert_eq!(Answer::of_line(line.as_bytes()), Some(Err(refusal)));
+        assert_eq!(refusal.edge().is_some(), line.len() == 8);
+        assert_eq!(line[4..6], format!("{:02x}", refusal.number()));
+        assert_eq!(refusal.to_string().contains("edge"), line.len() == 8);
+    }
+}
+
+// ---------------------------------------------------------------------------
+// The place for an edge, which the wrapper keeps to itself
+
+extern "C" {
+    // As `stonefruitle.rs` has them.
+    fn stonefruitle_answer_line(
+        line: *const u8,
+        line_length: usize,
+        out: *mut u8,
+        out_length: usize,
+        written: *mut usize,
+        edge: *mut u8,
+    ) -> u8;
+    fn stonefruitle_answer_lists(
+        a: *const i64,
+        a_length: usize,
+        b: *const i64,
+        b_length: usize,
+        vax: i64,
+        vay: i64,
+        vbx: i64,
+        vby: i64,
+        limit: i64,
+        out: *mut u8,
+        out_length: usize,
+        written: *mut usize,
+        edge: *mut u8,
+    ) -> u8;
+    fn stonefruitle_write_move(
+        a: *const i64,
+        a_length: usize,
+        b: *const i64,
+        b_length: usize,
+        vax: i64,
+        vay: i64,
+        vbx: i64,
+        vby: i64,
+        limit: i64,
+        out: *mut u8,
+        out_length: usize,
+        written: *mut usize,
+        edge: *mut u8,
+    ) -> u8;
+    fn stonefruitle_read_line(line: *const u8, line_length: usize, edge: *mut u8) -> u8;
+    fn stonefruitle_read_move(
+        line: *const u8,
+        line_length: usize,
+        numbers: *mut i64,
+        edge: *mut u8,
+    ) -> u8;
+    fn stonefruitle_log_step(
+        kept_some: bool,
+        kept_number: u16,
+        line: *const u8,
+        line_length: usize,
+        out: *mut u8,
+        out_length: usize,
+        kept_some_after: *mut bool,
+        kept_number_after: *mut u16,
+        lost: *mut u16,
+        written: *mut usize,
+        edge: *mut u8,
+    ) -> u8;
+    fn stonefruitle_read_log(
+        line: *const u8,
+        line_length: usize,
+        number: *mut u16,
+        numbers: *mut i64,
+        edge: *mut u8,
+    ) -> u8;
+    fn stonefruitle_test_outline(coordinates: *const i64, length: usize, edge: *mut u8) -> u8;
+}
+
+/// A call writes the edge of its refusal, and where that has none leaves what stood there, which differs from turn to turn.
+fn assert_edge(what: &str, refusal: Option<Refusal>, turn: usize, call: impl Fn(*mut u8) -> u8) {
+    let before = [BEFORE, 0, 1, 255][turn % 4];
+    let mut edge = before;
+    assert_eq!(usize::from(call(&mut edge)), place_of(refusal), "{what}");
+    let named = refusal.and_then(Refusal::edge);
+    assert_eq!(edge, named.unwrap_or(before), "{what}: the edge");
+}
+
+fn check_edges_of_line(what: &str, line: &[u8], refusal: Option<Refusal>, turn: usize) {
+    let (at, length) = (line.as_ptr(), line.len());
+    for (room, refusal) in [
+        (ANSWER_ROOM, refusal),
+        (ANSWER_ROOM - 1, Some(Refusal::Room)),
+    ] {
+        assert_edge(what, refusal, turn, |edge| unsafe {
+            let (mut out, mut written) = ([0; ANSWER_ROOM], 0);
+            stonefruitle_answer_line(at, length, out.as_mut_ptr(), room, &mut written, edge)
+        });
+    }
+    assert_edge(what, refusal, turn, |edge| unsafe {
+        stonefruitle_read_line(at, length, edge)
+    });
+    assert_edge(what, refusal, turn, |edge| unsafe {
+        let mut numbers = [0; NUMBERS];
+        stonefruitle_read_move(at, length, numbers.as_mut_ptr(), edge)
+    });
+}
+
+fn check_edges_of_lists(what: &str, m: &Lists, refusal: Option<Refusal>, turn: usize) {
+    for (call, room) in [
+        (stonefruitle_answer_lists as FromLists, ANSWER_ROOM),
+        (stonefruitle_write_move as FromLists, MOVE_ROOM),
+    ] {
+        for (room, refusal) in [(room, refusal), (room - 1, Some(Refusal::Room))] {
+            assert_edge(what, refusal, turn, |edge| unsafe {
+                let (mut out, mut written) = ([0; MOVE_ROOM], 0);
+                let ((vax, vay), (vbx, vby)) = (m.velocity_a, m.velocity_b);
+                call(
+                    m.a.as_ptr(),
+                    m.a.len(),
+                    m.b.as_ptr(),
+                    m.b.len(),
+                    vax,
+                    vay,
+                    vbx,
+                    vby,
+                    m.limit,
+                    out.as_mut_ptr(),
+                    room,
+                    &mut written,
+                    edge,
+                )
+            });
+        }
+    }
+}
+
+type FromLists = unsafe extern "C" fn(
+    *const i64,
+    usize,
+    *const i64,
+    usize,
+    i64,
+    i64,
+    i64,
+    i64,
+    i64,
+    *mut u8,
+    usize,
+    *mut usize,
+    *mut u8,
+) -> u8;
+
+fn check_edges_of_step(what: &str, kept: Kept, line: &[u8], refusal: Option<Refusal>, turn: usize) {
+    for (room, refusal) in [
+        (ANSWER_ROOM, refusal),
+        (ANSWER_ROOM - 1, Some(Refusal::Room)),
+    ] {
+        assert_edge(what, refusal, turn, |edge| unsafe {
+            let (mut out, mut written) = ([0; ANSWER_ROOM], 0);
+            let (mut some, mut number, mut lost) = (false, 0, 0);
+            stonefruitle_log_step(
+                kept.is_some(),
+                kept.unwrap_or(0),
+                line.as_ptr(),
+                line.len(),
+                out.as_mut_ptr(),
+                room,
+                &mut some,
+                &mut number,
+                &mut lost,
+                &mut written,
+                edge,
+            )
+        });
     }
 }

@@ -23,11 +23,11 @@ int main(void)
     /* A stands still; B is the same square 5 to the right and comes left by 1 per unit of time. */
     const int64_t a[] = {0, 0, 2, 0, 2, 2, 0, 2};
     const int64_t b[] = {5, 0, 7, 0, 7, 2, 5, 2};
-    uint8_t line[STONEFRUITLE_ANSWER_ROOM];
+    uint8_t line[STONEFRUITLE_ANSWER_ROOM], edge;
     size_t length;
 
     uint8_t refusal = stonefruitle_answer_lists(a, 8, b, 8, 0, 0, -1, 0, 10,
-                                                line, sizeof line, &length);
+                                                line, sizeof line, &length, &edge);
     if (refusal == STONEFRUITLE_ROOM) {
         printf("no room for the answer line\n");
         return 1;
@@ -35,7 +35,11 @@ int main(void)
     fwrite(line, 1, length, stdout);
 
     if (refusal != STONEFRUITLE_NONE) {
-        printf("refused: %d\nthe move is held\n", refusal);
+        printf("refused: %d\n", refusal);
+        /* The edge is written with these two alone. */
+        if (refusal == STONEFRUITLE_FIRST || refusal == STONEFRUITLE_SECOND)
+            printf("edge %d is wrong\n", edge);
+        printf("the move is held\n");
         return 1;
     }
     switch (number(line + 2, 2)) {

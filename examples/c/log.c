@@ -6,7 +6,7 @@
 int main(void)
 {
     char line[1 << 12]; /* a longer line than 288 digits is refused, so that no more is needed of it than that it is longer */
-    uint8_t out[STONEFRUITLE_ANSWER_ROOM];
+    uint8_t out[STONEFRUITLE_ANSWER_ROOM], edge; /* the edge stands in the answer line, too */
     size_t written;
     unsigned long lines = 0, accepted = 0, all_lost = 0;
 
@@ -16,7 +16,7 @@ int main(void)
 
     while (fgets(line, sizeof line, stdin)) {
         uint8_t refusal = stonefruitle_log_step(kept_some, kept_number, (const uint8_t *)line, strcspn(line, "\n"),
-                                                out, sizeof out, &kept_some, &kept_number, &lost, &written);
+                                                out, sizeof out, &kept_some, &kept_number, &lost, &written, &edge);
         fwrite(out, 1, written, stdout);
         lines++;
         accepted += refusal == STONEFRUITLE_NONE;
