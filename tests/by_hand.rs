@@ -9,8 +9,9 @@
 //!
 //! It shares no code with the program or with the independent one. What the
 //! document concludes from the numbers is checked here before it is printed:
-//! the weights against the definition of a common point, and each statement
-//! about a side against the corners at many times.
+//! the weights against the definition of a common point, each statement about
+//! a side against the corners at many times, and the edge that is wrong against
+//! what a sound outline is.
 
 use std::fmt;
 
@@ -158,6 +159,20 @@ fn is_sound(outline: &[Point]) -> bool {
         let crosses = crosses(outline, outline[k]);
         (0..outline.len()).all(|i| k == i || k == next(outline, i) || crosses[i] > 0)
     })
+}
+
+/// The lowest edge that has a corner, other than its two ends, not strictly to
+/// its left, and the lowest such corner.
+fn wrong_edge(outline: &[Point]) -> Option<(usize, usize)> {
+    let all = 0..outline.len();
+    let mut pairs = all.clone().flat_map(|i| all.clone().map(move |k| (i, k)));
+    let is_end = |i: usize, k: usize| k == i || k == next(outline, i);
+    let found = pairs.find(|&(i, k)| !is_end(i, k) && crosses(outline, outline[k])[i] <= 0);
+    check(
+        found.is_none() == is_sound(outline),
+        "sound if no edge is wrong",
+    );
+    found
 }
 
 fn inside(outline: &[Point], p: Point) -> bool {
@@ -899,16 +914,133 @@ const F: &str = "010304000a0001000100000001\
                  000000000003000000010003\
                  00040002000600020009000400060004";
 
+/// A is the square (0,0), (2,0), (2,2), (0,2), B is the quadrilateral (0,0),
+/// (4,0), (1,1), (0,4), which is not sound; both stand still; T is 10.
+const D: &str = "010404000a0000000000000000\
+                 00000000000200000002000200000002\
+                 00000000000400000001000100000004";
+
 /// The line of a move by its name.
 fn named(name: &str) -> &'static str {
-    match name.strip_prefix('P') {
-        Some(number) => example(number.parse().expect("a case has a number")),
-        None => F,
+    match (name, name.strip_prefix('P')) {
+        (_, Some(number)) => example(number.parse().expect("a case has a number")),
+        ("D", None) => D,
+        _ => F,
     }
 }
 
 fn sides_of(m: &Move) -> Vec<Side> {
     (0..m.a.len() + m.b.len()).map(|k| side(m, k)).collect()
+}
+
+// ---------------------------------------------------------------------------
+// Outlines that are not sound.
+
+/// Why a move is refused for its outlines: which is not sound, its refusal's
+/// number, the edge named and a corner not strictly to its left.
+struct Wrong<'a> {
+    of: char,
+    refusal: u8,
+    outline: &'a [Point],
+    edge: usize,
+    corner: usize,
+}
+
+fn wrong(m: &Move) -> Option<Wrong<'_>> {
+    let of = |of, refusal, outline| {
+        wrong_edge(outline).map(|(edge, corner)| Wrong {
+            of,
+            refusal,
+            outline,
+            edge,
+            corner,
+        })
+    };
+    of('A', 8, &m.a[..]).or_else(|| of('B', 9, &m.b[..]))
+}
+
+impl Wrong<'_> {
+    fn answer(&self) -> Vec<u8> {
+        vec![0x81, 0xff, self.refusal, self.edge as u8]
+    }
+
+    fn named(&self) -> String {
+        let (i, outline) = (self.edge, self.outline);
+        let (from, to) = (outline[i], outline[next(outline, i)]);
+        format!("{}'s edge {i}, from {from} to {to}", self.of)
+    }
+}
+
+/// The move in words, its line, and the answer to the question about it.
+fn refused_block(m: &Move, w: &Wrong) -> String {
+    let k = w.corner;
+    format!(
+        "A is {}. B is {}. The line:\n\n    {}\n\n*Which edge is wrong?* {}: \
+         corner {k}, {}, is not strictly to its left.\n",
+        list(&m.a),
+        list(&m.b),
+        m.line,
+        w.named(),
+        w.outline[k]
+    )
+}
+
+/// x·v - y·u, and its value.
+fn cross_text(Point(x, y): Point, Point(u, v): Point) -> String {
+    let factor = |n: i128| match n < 0 {
+        true => format!("({n})"),
+        false => n.to_string(),
+    };
+    let (first, second) = (x * v, y * u);
+    let products = format!("{x}·{} - {}·{}", factor(v), factor(y), factor(u));
+    format!("{products} = {}", difference(first, second, first - second))
+}
+
+/// The one cross product that shows that the edge named is wrong.
+fn edge_block(w: &Wrong) -> String {
+    let (i, k, outline) = (w.edge, w.corner, w.outline);
+    let (start, stop, corner) = (outline[i], outline[next(outline, i)], outline[k]);
+    let (step, to_corner) = (stop.minus(start), corner.minus(start));
+    let cross = step.cross(to_corner);
+    check(cross <= 0, "the cross product is not above zero");
+    let side = match cross {
+        0 => "on the line of the edge",
+        _ => "to the right of the edge",
+    };
+    format!(
+        "The step of edge {i} is {stop} - {start} = {step}; the step from its start to corner {k} \
+         is {corner} - {start} = {to_corner}.\n\n{}\n\n{cross} is not above zero: corner {k} lies {side}.\n",
+        cross_text(step, to_corner)
+    )
+}
+
+/// The cross products of the lower edges, all above zero.
+fn lower_block(w: &Wrong) -> String {
+    if w.edge == 0 {
+        return "No edge is lower than 0.\n".into();
+    }
+    let (outline, mut rows) = (w.outline, Vec::new());
+    for i in 0..w.edge {
+        for k in (0..outline.len()).filter(|&k| k != i && k != next(outline, i)) {
+            let (step, to_corner) = (edge(outline, i), outline[k].minus(outline[i]));
+            check(step.cross(to_corner) > 0, "a lower edge is not wrong");
+            let cross = cross_text(step, to_corner);
+            rows.push(format!("{i} | {step} | {k} | {to_corner} | {cross}"));
+        }
+    }
+    let head = "Edge | Step (x, y) | Corner | Step from the edge's start (u, v) | x·v - y·u";
+    format!("{}\nAll are above zero.\n", table(head, &rows))
+}
+
+fn refusal_block(w: &Wrong) -> String {
+    let (of, refusal, edge) = (w.of, w.refusal, w.edge);
+    let fields = [
+        (1, "an answer".to_string()),
+        (1, "refused".to_string()),
+        (1, format!("refusal {refusal}: {of} is not sound")),
+        (1, format!("edge {edge} of {of}")),
+    ];
+    frame_table(&w.answer(), &fields)
 }
 
 // ---------------------------------------------------------------------------
@@ -942,17 +1074,19 @@ struct Logged {
 }
 
 fn logged(kept: Option<i128>, number: i128, m: &Move) -> Logged {
-    let refused = |difference: String, order: String, refusal: u8| Logged {
+    let refused = |difference: String, order: String, answer: Vec<u8>| Logged {
         difference,
         order,
         lost: None,
-        answer: vec![0x81, 0xff, refusal],
+        answer,
         kept,
     };
-    if !is_sound(&m.a) || !is_sound(&m.b) {
-        let (name, refusal) = if is_sound(&m.a) { ('B', 9) } else { ('A', 8) };
-        let why = format!("{name} is not sound: refusal {refusal}");
-        return refused("not asked".into(), why, refusal);
+    if let Some(w) = wrong(m) {
+        let why = format!(
+            "{} is not sound: refusal {}, edge {}",
+            w.of, w.refusal, w.edge
+        );
+        return refused("not asked".into(), why, w.answer());
     }
     let (difference, steps) = match kept {
         None => ("none".into(), 1),
@@ -970,7 +1104,8 @@ fn logged(kept: Option<i128>, number: i128, m: &Move) -> Logged {
         check(there == number, "the difference leads to the number");
     }
     if !(1..=FARTHEST).contains(&steps) {
-        return refused(difference, "out of order: refusal 10".into(), 10);
+        let answer = vec![0x81, 0xff, 10];
+        return refused(difference, "out of order: refusal 10".into(), answer);
     }
     let order = match kept {
         None => "the first".to_string(),
@@ -1111,19 +1246,36 @@ fn main() {
         let v = verdict(&m, &sides);
         (name, m, sides, v)
     });
+    let refused = ["P12", "D"].map(|name| (name, read_any(named(name))));
+    let wrong = refused.each_ref().map(|(name, m)| {
+        let w = wrong(m);
+        (*name, m, w.expect("an outline that is not sound"))
+    });
     match wanted.as_str() {
         "--print" => {
             for (name, m, sides, v) in &worked {
                 print(name, m, &p1, sides, *v);
             }
+            for (name, m, w) in &wrong {
+                block(&format!("{name} move"), refused_block(m, w));
+                block(&format!("{name} edge"), edge_block(w));
+                block(&format!("{name} lower"), lower_block(w));
+                block(&format!("{name} answer"), refusal_block(w));
+            }
             block("log line", log_line_block());
             block("log rule", log_rule_block());
             block("log", log_block());
         }
-        "--lines" => worked.iter().for_each(|(_, m, ..)| println!("{}", m.line)),
-        "--answers" => worked
-            .iter()
-            .for_each(|(_, _, sides, v)| println!("{}", hex(&answer(sides, *v).0))),
+        "--lines" => {
+            let moves = worked.iter().map(|(_, m, ..)| m);
+            let all = moves.chain(refused.iter().map(|(_, m)| m));
+            all.for_each(|m| println!("{}", m.line));
+        }
+        "--answers" => {
+            let moves = worked.iter().map(|(_, _, sides, v)| answer(sides, *v).0);
+            let all = moves.chain(wrong.iter().map(|(.., w)| w.answer()));
+            all.for_each(|answer| println!("{}", hex(&answer)));
+        }
         "--log" => LOG.iter().for_each(|(number, name)| {
             let m = read_any(named(name));
             println!("{}", hex(&log_frame((*number).into(), &m)));
