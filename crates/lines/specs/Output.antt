@@ -8,7 +8,7 @@ use Prim.Native.Nat.{ℕ}
 use Rattle.frame.specs.AnswerFrame.{answerLine}
 use Rattle.frame.specs.AnswerOfLine.{answerOfLine}
 use Rattle.log.specs.Steps.{answerAt}
-use Rattle.log.specs.Run.{answers}
+use Rattle.log.specs.Run.{runAnswers}
 use Rattle.log.specs.declared.Kept.{Kept}
 use Rattle.log.specs.declared.Kept.the-variants.{Nothing}
 use Rattle.lines.specs.Lines.{linesOf}
@@ -23,4 +23,4 @@ abbrev pub logAnswerTo : Kept → List ℕ → List ℕ
 logAnswerTo kept l = answerLine (answerAt kept l)
 
 unfoldable pub logOutput : List ℕ → List ℕ
-logOutput s = flatMap answerLine (answers Nothing (linesOf s))
+logOutput s = flatMap answerLine (runAnswers Nothing (linesOf s))

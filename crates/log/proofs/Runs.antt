@@ -1,5 +1,5 @@
 -- The run of any lines from any kept state, line by line: a refused line leaves everything as it is, and an accepted one is answered as its bare line is, and its number is kept.
---   answers-bare    the answers to the accepted lines are the answers to their bare lines, in order
+--   run-as-bare     the answers to the accepted lines are the answers to their bare lines, in order
 --   kept-last       the number kept at the end is that of the last accepted line
 --   run-by          what holds where no line is accepted, and of an accepted line before others, holds of every run
 use mathlib.Core.Path.{_≡_, refl, sym, ap₂, _∙_}
@@ -15,7 +15,7 @@ use Rattle.frame.specs.AnswerOfLine.{answerOfLine}
 use Rattle.log.specs.LogLine.{numberOf, bareLine}
 use Rattle.log.specs.Order.{lostBefore}
 use Rattle.log.specs.Steps.{refusalAt, answerAt}
-use Rattle.log.specs.Run.{run, keptBy, acceptedIn, lostIn, accepted, lost, lastOf}
+use Rattle.log.specs.Run.{run, keptBy, acceptedIn, lostOver, accepted, lost, lastOf}
 use Rattle.log.specs.declared.Kept.{Kept}
 use Rattle.log.specs.declared.Kept.the-variants.{Number}
 use Rattle.log.proofs.RoundTrip.{bare-accepted, bare-move}
@@ -39,8 +39,8 @@ steps-bare (s ∷ ss) = go (ℕ-discrete (refusalAt (s .0) (s .1)) 0) (steps-bar
     go (yes e) rest = rw (eq-eqb (refusalAt (s .0) (s .1)) 0 e) (ap₂ _∷_ (answer-bare (s .0) (s .1) e) rest)
     go (no n) rest = rw (ne-eqb (refusalAt (s .0) (s .1)) 0 n) rest
 
-pub answers-bare : (kept : Kept) (ls : List (List ℕ)) → map (λ s. answerAt (s .0) (s .1)) (acceptedIn (run kept ls)) ≡ map (λ l. answerOfLine (bareLine l)) (accepted kept ls)
-answers-bare kept ls = steps-bare (run kept ls)
+pub run-as-bare : (kept : Kept) (ls : List (List ℕ)) → map (λ s. answerAt (s .0) (s .1)) (acceptedIn (run kept ls)) ≡ map (λ l. answerOfLine (bareLine l)) (accepted kept ls)
+run-as-bare kept ls = steps-bare (run kept ls)
 
 -- ---- one line more before a run
 module _ (kept : Kept) (l : List ℕ) (ls : List (List ℕ)) where
@@ -50,7 +50,7 @@ module _ (kept : Kept) (l : List ℕ) (ls : List (List ℕ)) where
     accepted-refused = rw (ne-eqb (refusalAt kept l) 0 n, kept-stays kept l n)
 
     lost-refused : lost kept (l ∷ ls) ≡ lost kept ls
-    unfolding along lostIn
+    unfolding along lostOver
     lost-refused = rw (lost-none kept l n, kept-stays kept l n) (omega arith)
 
     kept-refused : keptBy kept (l ∷ ls) ≡ keptBy kept ls
@@ -63,7 +63,7 @@ module _ (kept : Kept) (l : List ℕ) (ls : List (List ℕ)) where
     accepted-next = rw (eq-eqb (refusalAt kept l) 0 e, kept-moves kept l e)
 
     lost-next : lost kept (l ∷ ls) ≡ lostBefore kept (numberOf l) + lost (Number (numberOf l)) ls
-    unfolding along lostIn
+    unfolding along lostOver
     lost-next = rw (lost-some kept l e, kept-moves kept l e)
 
     kept-next : keptBy kept (l ∷ ls) ≡ keptBy (Number (numberOf l)) ls
@@ -77,7 +77,7 @@ module _ (P : Kept → List (List ℕ) → ℕ → Kept → Type 0) (none : (kep
   Holds kept ls = P kept (accepted kept ls) (lost kept ls) (keptBy kept ls)
 
   pub run-by : (kept : Kept) (ls : List (List ℕ)) → P kept (accepted kept ls) (lost kept ls) (keptBy kept ls)
-  unfolding along after acceptedIn lostIn
+  unfolding along after acceptedIn lostOver
   run-by kept [] = none kept
   run-by kept (l ∷ ls) = go (ℕ-discrete (refusalAt kept l) 0) (run-by (Number (numberOf l)) ls) (run-by kept ls)
     where

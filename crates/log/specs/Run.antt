@@ -1,6 +1,6 @@
 -- The run of a list of log lines, each taken with the number that is kept before it.
 --   run kept ls         the steps: each line with the number kept before it
---   answers kept ls     the answers to the lines, in order
+--   runAnswers kept ls  the answers to the lines, in order
 --   keptBy kept ls      the number kept after the last line
 --   accepted kept ls    the accepted lines, in order
 --   lost kept ls        how many lines were lost in all
@@ -19,8 +19,8 @@ use Rattle.log.specs.declared.Kept.the-variants.{Number}
 abbrev pub run : Kept → List (List ℕ) → List (Kept × List ℕ)
 run kept ls = along keptAfter kept ls
 
-abbrev pub answers : Kept → List (List ℕ) → List Answer
-answers kept ls = map (λ s. answerAt (s .0) (s .1)) (run kept ls)
+abbrev pub runAnswers : Kept → List (List ℕ) → List Answer
+runAnswers kept ls = map (λ s. answerAt (s .0) (s .1)) (run kept ls)
 
 abbrev pub keptBy : Kept → List (List ℕ) → Kept
 keptBy kept ls = after keptAfter kept ls
@@ -29,15 +29,15 @@ unfoldable pub acceptedIn : List (Kept × List ℕ) → List (Kept × List ℕ)
 acceptedIn [] = []
 acceptedIn (s ∷ ss) = cond (isAccepted (s .0) (s .1)) (s ∷ acceptedIn ss) (acceptedIn ss)
 
-unfoldable pub lostIn : List (Kept × List ℕ) → ℕ
-lostIn [] = 0
-lostIn (s ∷ ss) = lostAt (s .0) (s .1) + lostIn ss
+unfoldable pub lostOver : List (Kept × List ℕ) → ℕ
+lostOver [] = 0
+lostOver (s ∷ ss) = lostAt (s .0) (s .1) + lostOver ss
 
 abbrev pub accepted : Kept → List (List ℕ) → List (List ℕ)
 accepted kept ls = map (λ s. s .1) (acceptedIn (run kept ls))
 
 abbrev pub lost : Kept → List (List ℕ) → ℕ
-lost kept ls = lostIn (run kept ls)
+lost kept ls = lostOver (run kept ls)
 
 unfoldable pub lastOf : Kept → List (List ℕ) → Kept
 lastOf kept [] = kept
