@@ -2,6 +2,7 @@ pub mod Products
 pub mod Intervals
 pub mod Extreme
 pub mod Wide
+pub mod Own
 pub mod Weights
 pub mod Hull
 pub mod Common
