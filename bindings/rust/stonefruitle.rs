@@ -15,76 +15,101 @@
 //! What each function answers is proved of the library (`crates/stonefruitle_c/src/lib.rt`). Not proved is this file:
 //! the calls below, and that `Answer::of_line` takes an answer line apart as it is put together.
 
+use linked::*;
 use std::fmt;
 
-#[link(name = "stonefruitle_c", kind = "static")]
-extern "C" {
-    fn stonefruitle_answer_line(
-        line: *const u8,
-        line_length: usize,
-        out: *mut u8,
-        out_length: usize,
-        written: *mut usize,
-        edge: *mut u8,
+/// The C functions as they are linked, below the safe ones; `include/stonefruitle.h` says what each asks of its pointers.
+pub mod linked {
+    #[link(name = "stonefruitle_c", kind = "static")]
+    extern "C" {
+        pub fn stonefruitle_answer_line(
+            line: *const u8,
+            line_length: usize,
+            out: *mut u8,
+            out_length: usize,
+            written: *mut usize,
+            edge: *mut u8,
+        ) -> u8;
+        pub fn stonefruitle_answer_lists(
+            a: *const i64,
+            a_length: usize,
+            b: *const i64,
+            b_length: usize,
+            vax: i64,
+            vay: i64,
+            vbx: i64,
+            vby: i64,
+            limit: i64,
+            out: *mut u8,
+            out_length: usize,
+            written: *mut usize,
+            edge: *mut u8,
+        ) -> u8;
+        pub fn stonefruitle_write_move(
+            a: *const i64,
+            a_length: usize,
+            b: *const i64,
+            b_length: usize,
+            vax: i64,
+            vay: i64,
+            vbx: i64,
+            vby: i64,
+            limit: i64,
+            out: *mut u8,
+            out_length: usize,
+            written: *mut usize,
+            edge: *mut u8,
+        ) -> u8;
+        pub fn stonefruitle_read_line(line: *const u8, line_length: usize, edge: *mut u8) -> u8;
+        pub fn stonefruitle_read_move(
+            line: *const u8,
+            line_length: usize,
+            numbers: *mut i64,
+            edge: *mut u8,
+        ) -> u8;
+        pub fn stonefruitle_log_step(
+            kept_some: bool,
+            kept_number: u16,
+            line: *const u8,
+            line_length: usize,
+            out: *mut u8,
+            out_length: usize,
+            kept_some_after: *mut bool,
+            kept_number_after: *mut u16,
+            lost: *mut u16,
+            written: *mut usize,
+            edge: *mut u8,
+        ) -> u8;
+        pub fn stonefruitle_read_log(
+            line: *const u8,
+            line_length: usize,
+            number: *mut u16,
+            numbers: *mut i64,
+            edge: *mut u8,
+        ) -> u8;
+        pub fn stonefruitle_test_outline(
+            coordinates: *const i64,
+            length: usize,
+            edge: *mut u8,
+        ) -> u8;
+    }
+
+    /// The two functions that take a move as numbers and write a line.
+    pub type FromLists = unsafe extern "C" fn(
+        *const i64,
+        usize,
+        *const i64,
+        usize,
+        i64,
+        i64,
+        i64,
+        i64,
+        i64,
+        *mut u8,
+        usize,
+        *mut usize,
+        *mut u8,
     ) -> u8;
-    fn stonefruitle_answer_lists(
-        a: *const i64,
-        a_length: usize,
-        b: *const i64,
-        b_length: usize,
-        vax: i64,
-        vay: i64,
-        vbx: i64,
-        vby: i64,
-        limit: i64,
-        out: *mut u8,
-        out_length: usize,
-        written: *mut usize,
-        edge: *mut u8,
-    ) -> u8;
-    fn stonefruitle_write_move(
-        a: *const i64,
-        a_length: usize,
-        b: *const i64,
-        b_length: usize,
-        vax: i64,
-        vay: i64,
-        vbx: i64,
-        vby: i64,
-        limit: i64,
-        out: *mut u8,
-        out_length: usize,
-        written: *mut usize,
-        edge: *mut u8,
-    ) -> u8;
-    fn stonefruitle_read_line(line: *const u8, line_length: usize, edge: *mut u8) -> u8;
-    fn stonefruitle_read_move(
-        line: *const u8,
-        line_length: usize,
-        numbers: *mut i64,
-        edge: *mut u8,
-    ) -> u8;
-    fn stonefruitle_log_step(
-        kept_some: bool,
-        kept_number: u16,
-        line: *const u8,
-        line_length: usize,
-        out: *mut u8,
-        out_length: usize,
-        kept_some_after: *mut bool,
-        kept_number_after: *mut u16,
-        lost: *mut u16,
-        written: *mut usize,
-        edge: *mut u8,
-    ) -> u8;
-    fn stonefruitle_read_log(
-        line: *const u8,
-        line_length: usize,
-        number: *mut u16,
-        numbers: *mut i64,
-        edge: *mut u8,
-    ) -> u8;
-    fn stonefruitle_test_outline(coordinates: *const i64, length: usize, edge: *mut u8) -> u8;
 }
 
 /// The least room for an answer line and for a move line, 0a included.
@@ -516,23 +541,6 @@ pub fn answer_lists_into(m: &Move, out: &mut [u8]) -> Written {
 pub fn write_move_into(m: &Move, out: &mut [u8]) -> Written {
     into(stonefruitle_write_move, m, out)
 }
-
-/// The two functions that take a move as numbers and write a line.
-type FromLists = unsafe extern "C" fn(
-    *const i64,
-    usize,
-    *const i64,
-    usize,
-    i64,
-    i64,
-    i64,
-    i64,
-    i64,
-    *mut u8,
-    usize,
-    *mut usize,
-    *mut u8,
-) -> u8;
 
 fn into(call: FromLists, m: &Move, out: &mut [u8]) -> Written {
     let (mut bytes, mut edge) = (0, 0);

@@ -21,6 +21,7 @@ mod runs;
 use checker::{lowest_bad_edge, point, verdict, Point, Verdict};
 use generate::{Rng, Set, AT_ZERO, BAD_EDGES, BASE};
 use runs::{Log, LOG, LOG_BAD_EDGES};
+use stonefruitle::linked::*;
 use stonefruitle::*;
 
 const SEED: u64 = 20_261;
@@ -993,76 +994,6 @@ fn refusal_lines() {
 // ---------------------------------------------------------------------------
 // The place for an edge, which the wrapper keeps to itself
 
-extern "C" {
-    // As `stonefruitle.rs` has them.
-    fn stonefruitle_answer_line(
-        line: *const u8,
-        line_length: usize,
-        out: *mut u8,
-        out_length: usize,
-        written: *mut usize,
-        edge: *mut u8,
-    ) -> u8;
-    fn stonefruitle_answer_lists(
-        a: *const i64,
-        a_length: usize,
-        b: *const i64,
-        b_length: usize,
-        vax: i64,
-        vay: i64,
-        vbx: i64,
-        vby: i64,
-        limit: i64,
-        out: *mut u8,
-        out_length: usize,
-        written: *mut usize,
-        edge: *mut u8,
-    ) -> u8;
-    fn stonefruitle_write_move(
-        a: *const i64,
-        a_length: usize,
-        b: *const i64,
-        b_length: usize,
-        vax: i64,
-        vay: i64,
-        vbx: i64,
-        vby: i64,
-        limit: i64,
-        out: *mut u8,
-        out_length: usize,
-        written: *mut usize,
-        edge: *mut u8,
-    ) -> u8;
-    fn stonefruitle_read_line(line: *const u8, line_length: usize, edge: *mut u8) -> u8;
-    fn stonefruitle_read_move(
-        line: *const u8,
-        line_length: usize,
-        numbers: *mut i64,
-        edge: *mut u8,
-    ) -> u8;
-    fn stonefruitle_log_step(
-        kept_some: bool,
-        kept_number: u16,
-        line: *const u8,
-        line_length: usize,
-        out: *mut u8,
-        out_length: usize,
-        kept_some_after: *mut bool,
-        kept_number_after: *mut u16,
-        lost: *mut u16,
-        written: *mut usize,
-        edge: *mut u8,
-    ) -> u8;
-    fn stonefruitle_read_log(
-        line: *const u8,
-        line_length: usize,
-        number: *mut u16,
-        numbers: *mut i64,
-        edge: *mut u8,
-    ) -> u8;
-    fn stonefruitle_test_outline(coordinates: *const i64, length: usize, edge: *mut u8) -> u8;
-}
-
 /// A call writes the edge of its refusal, and where that has none leaves what stood there, which differs from turn to turn.
 fn assert_edge(what: &str, refusal: Option<Refusal>, turn: usize, call: impl Fn(*mut u8) -> u8) {
     let before = [BEFORE, 0, 1, 255][turn % 4];
@@ -1120,22 +1051,6 @@ fn check_edges_of_lists(what: &str, m: &Lists, refusal: Option<Refusal>, turn: u
         }
     }
 }
-
-type FromLists = unsafe extern "C" fn(
-    *const i64,
-    usize,
-    *const i64,
-    usize,
-    i64,
-    i64,
-    i64,
-    i64,
-    i64,
-    *mut u8,
-    usize,
-    *mut usize,
-    *mut u8,
-) -> u8;
 
 fn check_edges_of_step(what: &str, kept: Kept, line: &[u8], refusal: Option<Refusal>, turn: usize) {
     for (room, refusal) in [

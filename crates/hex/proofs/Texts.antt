@@ -3,6 +3,7 @@ use mathlib.Core.Path.{_≡_, refl}
 use mathlib.Core.Bool.{Bool, true, false, and-eq-true-iff}
 use mathlib.Core.List.{List}
 use Prim.Native.Nat.{ℕ, _%_, _≤_, _<_}
+use native.Mathlib.Omega.{arith}
 use lib.Dec.{ltb, leb, eqb}
 use lib.ListN.{length}
 use borrow.Author.Tests.{ltb-true, leb-true, eqb-true, lt-ltb, le-leb, eq-eqb}
@@ -31,3 +32,10 @@ textual-no most l h = go (textual most l) (textual-yes most l)
     go : (t : Bool) → (t ≡ true → Textual most l) → t ≡ false
     go true y = absurd (h (y refl))
     go false y = refl
+
+-- ---- how long a text may be can be raised, and lowered as far as its own length
+pub textual-more : {most more : ℕ} (l : List ℕ) → most ≤ more → Textual most l → Textual more l
+textual-more l h t = let short = t .short in record { some = t .some; even = t .even; short = omega arith; digital = t .digital }
+
+pub textual-less : {most less : ℕ} (l : List ℕ) → length l ≤ less → Textual most l → Textual less l
+textual-less l h t = record { some = t .some; even = t .even; short = h; digital = t .digital }

@@ -41,11 +41,11 @@ long-alike : (l m : List ℕ) → 289 ≤ length l → 289 ≤ length m → answ
 long-alike l m h k = ap answerLine (long-refused l (omega arith) ∙ sym (long-refused m (omega arith)))
 
 -- ---- how long an answer is
-pub answer-length : (r : Answer) → length (answerLine r) ≡ 2 * length (answerFrame r) + 1
+answer-length : (r : Answer) → length (answerLine r) ≡ 2 * length (answerFrame r) + 1
 unfolding answerLine
 answer-length r = length-append (hex (answerFrame r)) (10 ∷ []) ∙ ap (λ n. n + 1) (hex-length (answerFrame r))
 
-pub refused-length : (r : Refusal) → length (answerLine (Refused r)) ≤ 9
+refused-length : (r : Refusal) → length (answerLine (Refused r)) ≤ 9
 unfolding answerFrame flatMap
 refused-length r = omega (arith, answer-length (Refused r), two-values r)
 
@@ -53,21 +53,21 @@ refused-answer : (l : List ℕ) → ¬ (refusalOfLine l ≡ 0) → answerOfLine 
 unfolding answerOfLine answerUnless
 refused-answer l n = rw (ne-eqb (refusalOfLine l) 0 n)
 
--- the refusal of an empty line is seven bytes long, and any other line has a byte
-pub answer-empty : length (answerTo []) ≡ 7
+-- where the answer to an empty line is seven bytes long, a refusal has room: any other line has a byte
+pub refused-room : (says : List ℕ → Answer) → length (answerLine (says [])) ≡ 7 → (l : List ℕ) {r : Refusal} → says l ≡ Refused r → length (answerLine (says l)) ≤ 7 * (length l + 1)
+refused-room says seven [] e = omega (arith, seven)
+refused-room says seven (c ∷ l) {r} e = omega (arith, ap (λ x. length (answerLine x)) e, refused-length r)
+
+answer-empty : length (answerTo []) ≡ 7
 unfolding answerOfLine refusalOfLine firstThatApplies answerUnless answerLine answerFrame hex flatMap carried carriedBy
 answer-empty = refl
-
-refused-room : (l : List ℕ) {r : Refusal} → answerOfLine l ≡ Refused r → length (answerTo l) ≤ 7 * (length l + 1)
-refused-room [] e = omega (arith, answer-empty)
-refused-room (c ∷ l) {r} e = omega (arith, ap (λ x. length (answerLine x)) e, refused-length r)
 
 pub answer-room : (l : List ℕ) → length (answerTo l) ≤ 7 * (length l + 1)
 answer-room l = go (ℕ-discrete (refusalOfLine l) 0)
   where
     go : Dec (refusalOfLine l ≡ 0) → length (answerTo l) ≤ 7 * (length l + 1)
     go (yes e) = omega (arith, ap length (written-read l e), hex-length (moveFrame (moveOfLine l)), moveFrame-length (moveOfLine l), answer-length (answerOfLine l), length-answer (answerOfLine l))
-    go (no n) = refused-room l (refused-answer l n)
+    go (no n) = refused-room answerOfLine answer-empty l (refused-answer l n)
 
 pub length-line : (r : Answer) → length (answerLine r) ≤ 45
 length-line r = omega (arith, answer-length r, length-answer r)

@@ -1,6 +1,5 @@
 -- Log lines as a step. A line of more than 288 bytes is refused and does not move the kept number. An accepted line is answered as its bare line is, and any other with a refusal, so answers are as short. The answers are those of the run.
 use mathlib.Core.Path.{_≡_, refl, sym, _∙_, ap}
-use mathlib.Core.Bool.{Bool, true, false, _&&_}
 use mathlib.Core.List.{List, [], _∷_, _++_, map, flatMap}
 use Prim.Native.Nat.{ℕ, _+_, _*_, _≤_, _<_}
 use native.Mathlib.Decide.{ℕ-discrete}
@@ -8,7 +7,6 @@ use native.Mathlib.Omega.{arith}
 use lib.ListN.{length, length-drop}
 use borrow.Author.Tests.{ne-eqb, lt-leb}
 use Rattle.outline.specs.Refusal.{firstThatApplies, carriedBy}
-use Rattle.outline.specs.declared.Refusal.{Refusal}
 use Rattle.outline.specs.declared.Refusal.the-variants.{Plain}
 use Rattle.moves.specs.Refusal.{carried}
 use Rattle.moves.proofs.Carrying.{carried-plain}
@@ -25,7 +23,7 @@ use Rattle.log.proofs.Stepping.{refusal-own, kept-stays}
 use Rattle.log.proofs.Runs.{answer-bare}
 use Rattle.lines.specs.Output.{logAnswerTo}
 use Rattle.lines.specs.Steps.{answers, logged, Steady}
-use Rattle.lines.proofs.BareLines.{and-never, answer-length, refused-length, answer-room, length-line}
+use Rattle.lines.proofs.BareLines.{and-never, refused-room, answer-room, length-line}
 
 -- ---- a line of more than 288 bytes is refused
 refusal-long : (l : List ℕ) → 288 < length l → refusalOfLog l ≡ 2
@@ -47,14 +45,9 @@ module _ (kept : Kept) (l : List ℕ) where
   long-log-kept h = let e = long-at h in kept-stays kept l (λ z. omega arith)
 
 -- ---- how long an answer is
--- the refusal of an empty line is seven bytes long, and any other line has a byte
 empty-at : (kept : Kept) → length (logAnswerTo kept []) ≡ 7
 unfolding answerAt refusalAt firstThatApplies answerUnless answerLine answerFrame hex flatMap carried carriedBy
 empty-at kept = refl
-
-refused-log-room : (kept : Kept) (l : List ℕ) {r : Refusal} → answerAt kept l ≡ Refused r → length (logAnswerTo kept l) ≤ 7 * (length l + 1)
-refused-log-room kept [] e = omega (arith, empty-at kept)
-refused-log-room kept (c ∷ l) {r} e = omega (arith, ap (λ x. length (answerLine x)) e, refused-length r)
 
 module _ (kept : Kept) (l : List ℕ) where
   log-room : length (logAnswerTo kept l) ≤ 7 * (length l + 1)
@@ -62,7 +55,7 @@ module _ (kept : Kept) (l : List ℕ) where
     where
       go : Dec (refusalAt kept l ≡ 0) → length (logAnswerTo kept l) ≤ 7 * (length l + 1)
       go (yes e) = omega (arith, ap (λ r. length (answerLine r)) (answer-bare kept l e), answer-room (bareLine l), length-drop 6 l)
-      go (no n) = refused-log-room kept l (refused-at kept l n)
+      go (no n) = refused-room (answerAt kept) (empty-at kept) l (refused-at kept l n)
 
 -- ---- so the step is steady
 pub logged-steady : Steady logged

@@ -1,12 +1,11 @@
 -- The reading of a log line by its cases: a line with no fourth byte is refused; in a longer one the first six digits are the kind and the number, and the others the line of its move.
 use mathlib.Core.Path.{_≡_, sym, ap, ap₂, _∙_}
 use mathlib.Core.Logic.{_≢_}
-use mathlib.Core.Bool.{true, false, not, cond, _&&_, _||_}
-use mathlib.Core.List.{List, [], _∷_, _++_}
+use mathlib.Core.Bool.{true}
+use mathlib.Core.List.{List, _++_}
 use Prim.Native.Nat.{ℕ, _-_, _≤_, _<_}
 use native.Mathlib.Omega.{arith}
-use lib.Dec.{ltb, eqb}
-use lib.ListN.{length, getD, take, drop, length-append, length-take, length-drop, drop-of-length-le}
+use lib.ListN.{length, getD, take, drop, length-take, length-drop, drop-of-length-le}
 use lib.Seq.{take-all, take-at, drop-at, getD-take, getD-drop}
 use borrow.Author.Tests.{eq-eqb, ne-eqb, lt-ltb, le-ltb}
 use Rattle.outline.specs.Refusal.{firstThatApplies}
@@ -15,13 +14,13 @@ use Rattle.moves.specs.Move.{Move}
 use Rattle.moves.specs.Refusal.{carried}
 use Rattle.moves.proofs.Carrying.{carried-plain}
 use Rattle.moves.specs.Reading.{readingUnless}
-use Rattle.moves.proofs.Listed.{reading-none, reading-some}
+use Rattle.moves.proofs.Listed.{reading-some}
 use Rattle.hex.specs.Bytes.{byteAt, number2}
 use Rattle.hex.specs.Hex.{unhex}
 use Rattle.hex.specs.Text.{decoded}
 use Rattle.hex.specs.declared.Decoded.{Decoded}
 use Rattle.hex.proofs.HexText.{unhex-length}
-use Rattle.hex.proofs.Texts.{Textual, textual-true, textual-no}
+use Rattle.hex.proofs.Texts.{Textual, textual-true, textual-no, textual-more, textual-less}
 use Rattle.hex.proofs.Decoding.{decoded-byte}
 use Rattle.hex.proofs.Joined.{unhex-parts, textual-parts, textual-joined}
 use Rattle.moveline.specs.MoveFrame.{moveOfFrame}
@@ -37,13 +36,7 @@ pub entry-read : (r n : ℕ) (m : Move) → r ≡ 0 → entryUnless r n m .numbe
 unfolding entryUnless
 entry-read r n m e = simp (eq-eqb r 0 e)
 
--- ---- a text is at least as short as it may be
-pub textual-more : {most more : ℕ} (l : List ℕ) → most ≤ more → Textual most l → Textual more l
-textual-more l h t = let short = t .short in record { some = t .some; even = t .even; short = omega arith; digital = t .digital }
-
-pub textual-less : {most less : ℕ} (l : List ℕ) → length l ≤ less → Textual most l → Textual less l
-textual-less l h t = record { some = t .some; even = t .even; short = h; digital = t .digital }
-
+-- ---- a line by its refusal
 refused-by : (l : List ℕ) (r : ℕ) → refusalOfLog l ≡ r → r ≢ 0 → entryOf l ≡ refusedEntry (carried r (moveOf l))
 refused-by l r e n = entry-refused (refusalOfLog l) (numberOf l) (moveOf l) (λ z. n (sym e ∙ z)) ∙ ap (λ k. refusedEntry (carried k (moveOf l))) e
 

@@ -26,7 +26,7 @@ use Rattle.hex.specs.Hex.{hex, unhex}
 use Rattle.hex.proofs.ByteLists.{Bytes, byteAt-bound}
 use Rattle.hex.proofs.NumberBytes.{number2-bytes2, bytes2-number2, number2-bound}
 use Rattle.hex.proofs.HexText.{unhex-hex, hex-digits, hex-unhex, unhex-bytes, unhex-length, digits-unbroken}
-use Rattle.hex.proofs.Texts.{Textual, textual-yes}
+use Rattle.hex.proofs.Texts.{Textual, textual-yes, textual-more}
 use Rattle.hex.proofs.Joined.{hex-append, textual-parts}
 use Rattle.moveline.specs.MoveFrame.{moveFrame, moveOfFrame}
 use Rattle.moveline.specs.Reading.{refusalOfLine, moveOfLine}
@@ -34,7 +34,7 @@ use Rattle.moveline.proofs.FrameMove.{moveFrame-bytes, moveOfFrame-moveFrame}
 use Rattle.moveline.proofs.AcceptedLine.{AcceptedLine, sized-yes, acceptedFrame-yes, acceptedFrame-true, acceptedLine-yes, acceptedLine-true}
 use Rattle.moveline.proofs.RoundTrip.{read-written, written-read}
 use Rattle.log.specs.LogLine.{logFrame, logLine, refusalOfLog, numberOf, moveOf, bareLine}
-use Rattle.log.proofs.Reading.{textual-more, move-of-others, refusal-of-others}
+use Rattle.log.proofs.Reading.{move-of-others, refusal-of-others}
 
 -- ---- what an accepted log line has: a fourth byte too, as its counts ask for more
 record AcceptedLog (l : List ℕ) : Type 0 where

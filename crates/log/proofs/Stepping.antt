@@ -8,7 +8,7 @@ use native.Mathlib.Decide.{ℕ-discrete}
 use native.Mathlib.Omega.{arith}
 use borrow.Author.Tests.{eq-eqb, ne-eqb}
 use Rattle.outline.specs.Refusal.{firstThatApplies, isNone}
-use Rattle.outline.proofs.Reasons.{firstThatApplies-rest, firstThatApplies-some, firstThatApplies-next}
+use Rattle.outline.proofs.Reasons.{firstThatApplies-some, firstThatApplies-next}
 use Rattle.moves.specs.Refusal.{refusal, carried}
 use Rattle.moves.specs.HeldMove.{moveHeld}
 use Rattle.moves.specs.Reading.{refusedReading, readingUnless}
@@ -16,14 +16,16 @@ use Rattle.moves.proofs.Carrying.{carried-plain, carried-isNone}
 use Rattle.moves.proofs.Listed.{reading-some, reading-refusal}
 use Rattle.verdict.specs.Answer.{answerBy}
 use Rattle.verdict.proofs.Answering.{reading-answer}
+use Rattle.moveline.proofs.RoundTrip.{accepted}
 use Rattle.frame.specs.declared.Written.{Written}
 use Rattle.log.specs.declared.Step.{Step}
-use Rattle.log.specs.LogLine.{reasonsOfLog, refusalOfLog, numberOf, moveOf, entryUnless, entryOf}
+use Rattle.log.specs.LogLine.{reasonsOfLog, refusalOfLog, numberOf, moveOf, bareLine, entryUnless, entryOf}
 use Rattle.log.specs.Order.{inOrder, lostBefore}
 use Rattle.log.specs.Steps.{refusalAt, answerAt, keptAfter, lostAt, placedEntry}
 use Rattle.log.specs.declared.Kept.{Kept}
 use Rattle.log.specs.declared.Kept.the-variants.{Number}
 use Rattle.log.proofs.Reading.{entry-read}
+use Rattle.log.proofs.RoundTrip.{bare-accepted, bare-move}
 use Rattle.log.proofs.Ordering.{placed-refused, placed-out, placed-in}
 
 -- ---- a step by its parts
@@ -108,14 +110,9 @@ module _ (kept : Kept) (l : List ℕ) where
   unfolding lostAt
   lost-some e = simp (eq-eqb (refusalAt kept l) 0 e)
 
--- ---- the move of an accepted line is accepted
+-- ---- the move of an accepted line is accepted, as it is that of its bare line
 pub accepted-move : (l : List ℕ) → refusalOfLog l ≡ 0 → refusal (moveOf l) ≡ 0
-unfolding refusalOfLog refusal moveOf
-accepted-move l e =
-    let p = firstThatApplies-rest _ _ (omega arith) e in
-    let q = firstThatApplies-rest _ _ (omega arith) (p .1) in
-    let r = firstThatApplies-rest _ _ (omega arith) (q .1) in
-    r .1
+accepted-move l e = ap refusal (bare-move l e) ∙ accepted (bareLine l) (bare-accepted l e)
 
 pub accepted-at : (kept : Kept) (l : List ℕ) → refusalAt kept l ≡ 0 → refusal (moveOf l) ≡ 0
 accepted-at kept l e = accepted-move l (accepted-line kept l e .0)

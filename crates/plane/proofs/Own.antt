@@ -1,12 +1,11 @@
 -- An outline on its own side: no corner lies to the right of an edge, so none projects above the edge's start corner.
-use mathlib.Core.Path.{_≡_, sym, _∙_, ap}
+use mathlib.Core.Path.{_≡_, _∙_, ap}
 use mathlib.Core.List.{List, _∷_, []}
 use Prim.Native.Nat.{ℕ, _<_}
 use native.Mathlib.Omega.{arith}
 use lib.IntN.{ℤ, pos, _-ℤ_}
 use lib.ListN.{length}
 use lib.Signed.{_≤ℤ_}
-use Rattle.whole.specs.Member.{Mem}
 use Rattle.whole.proofs.Linear.{ints, lin≤, ≤lin}
 use Rattle.whole.proofs.Ring.{reps, by-ring}
 use Rattle.whole.proofs.Members.{mem-at, at-mem}

@@ -1,5 +1,5 @@
 -- What a loop over the spans of a list keeps after k of them: the greatest begin and the least end so far, each with the lowest place that has it, and none of the k spans is empty. Begins and ends go by one ranking each, `before` or `before` turned round, so the step of a lead is proved once, of a ranking.
-use mathlib.Core.Path.{_≡_, refl, sym, _∙_, ap, subst}
+use mathlib.Core.Path.{_≡_, refl, sym, _∙_, ap}
 use mathlib.Core.Bool.{Bool, true, false, cond, false≢true}
 use mathlib.Core.Logic.{_⊎_, inl, inr, ⊎-elim}
 use mathlib.Core.List.{List}

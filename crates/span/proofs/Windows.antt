@@ -1,6 +1,6 @@
 -- A window holds exactly the times s from 0 to T with lo ≤ s w ≤ hi. For w above zero its begin has the value of the greater of lo and 0 over w, its end that of the lesser of hi and T w over w, and both are compared with s by cross products; w below zero is the same with all three turned round.
 use mathlib.Core.Path.{_≡_, refl, ap}
-use mathlib.Core.Bool.{Bool, true, false, cond}
+use mathlib.Core.Bool.{Bool, true, false}
 use mathlib.Core.Logic.{_↔_, _⊎_, _≢_, inl, inr}
 use mathlib.Core.List.{[], _∷_}
 use Prim.Native.Nat.{ℕ, zero, suc, _*_, _^_, _≤_, _<_, min, max}

@@ -1,8 +1,6 @@
 -- Some items and then more: the state goes on from where the first left it, by induction over the first.
 use mathlib.Core.Path.{_≡_, refl, ap}
 use mathlib.Core.List.{List, [], _∷_, _++_}
-use Prim.Native.Nat.{suc}
-use lib.ListN.{length}
 use Rattle.whole.specs.Along.{after, along}
 
 module _ {S X : Type 0} (next : S → X → S) where
@@ -10,29 +8,12 @@ module _ {S X : Type 0} (next : S → X → S) where
   unfolding after
   after-none s = refl
 
-  pub after-step : (s : S) (x : X) (xs : List X) → after next s (x ∷ xs) ≡ after next (next s x) xs
-  unfolding after
-  after-step s x xs = refl
-
   pub after-append : (s : S) (xs ys : List X) → after next s (xs ++ ys) ≡ after next (after next s xs) ys
   unfolding after
   after-append s [] ys = refl
   after-append s (x ∷ xs) ys = after-append (next s x) xs ys
 
-  pub along-none : (s : S) → along next s [] ≡ []
-  unfolding along
-  along-none s = refl
-
-  pub along-step : (s : S) (x : X) (xs : List X) → along next s (x ∷ xs) ≡ (s, x) ∷ along next (next s x) xs
-  unfolding along
-  along-step s x xs = refl
-
   pub along-append : (s : S) (xs ys : List X) → along next s (xs ++ ys) ≡ along next s xs ++ along next (after next s xs) ys
   unfolding after along
   along-append s [] ys = refl
   along-append s (x ∷ xs) ys = ap (λ l. (s, x) ∷ l) (along-append (next s x) xs ys)
-
-  pub along-length : (s : S) (xs : List X) → length (along next s xs) ≡ length xs
-  unfolding along
-  along-length s [] = refl
-  along-length s (x ∷ xs) = ap suc (along-length (next s x) xs)

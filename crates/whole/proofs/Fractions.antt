@@ -2,7 +2,7 @@
 use mathlib.Core.Path.{_≡_, refl, sym, _∙_, ap, ap₂}
 use mathlib.Core.Bool.{Bool, true, false}
 use Prim.Native.Nat.{ℕ, _*_, _/_, _^_, _≤_, _<_, _∣_}
-use native.Mathlib.Nat.{mul-le-mul, le-pred-of-lt, mul-le-mul-right, le-of-mul-le-mul-right, le-antisymm, le-of-eq, eq-of-mul-eq-mul-left, eq-of-mul-eq-mul-right, mul-one, mul-div-cancel', div-le-self, dvd-mul-left, dvd-antisymm, pos-of-dvd-of-pos}
+use native.Mathlib.Nat.{mul-le-mul, le-pred-of-lt, mul-le-mul-right, le-of-mul-le-mul-right, eq-of-mul-eq-mul-left, eq-of-mul-eq-mul-right, mul-one, mul-div-cancel', div-le-self, dvd-mul-left, dvd-antisymm, pos-of-dvd-of-pos}
 use native.Mathlib.Omega.{arith}
 use borrow.Author.Tests.{ltb-true, ltb-false, le-ltb, eqb-true, eq-eqb}
 use Rattle.whole.specs.declared.Time.{Time}

@@ -1,5 +1,5 @@
 -- What was read and placed is the move beside the refusal of the step, so what is put is its answer; the number moves and lines are lost only where it is accepted.
-use mathlib.Core.Path.{_≡_, sym, _∙_, ap, subst}
+use mathlib.Core.Path.{sym, _∙_, ap, subst}
 use borrow.Author.Tests.{not-true, not-false}
 use Rattle.outline.specs.Refusal.{isNone}
 use Rattle.moves.proofs.Carrying.{carried-zero, carried-some}
@@ -7,13 +7,11 @@ use Rattle.moves.specs.HeldMove.{moveHeld}
 use Rattle.moves.specs.Reading.{Readable}
 use Rattle.moves.proofs.Listed.{reading-readable}
 use Rattle.verdict.specs.Answer.{answerBy}
-use Rattle.verdict.proofs.Answering.{reading-answer}
 use Rattle.frame.specs.Said.{Says}
-use Rattle.log.specs.LogLine.{numberOf, moveOf}
+use Rattle.log.specs.LogLine.{moveOf}
 use Rattle.log.specs.Order.{inOrder, lostBefore}
-use Rattle.log.specs.Steps.{refusalAt, answerAt, placedEntry}
+use Rattle.log.specs.Steps.{refusalAt, placedEntry}
 use Rattle.log.specs.declared.Kept.the-variants.{Number}
-use Rattle.log.proofs.Reading.{entry-read}
 use Rattle.log.proofs.Stepping.{accepted-line, placed-is, placed-refusal, placed-answer, kept-stays, kept-moves, lost-none, lost-some, accepted-at, entry-number}
 use borrow.Author.Needs.{needs}
 use Rattle.log.proofs.put_step.Statement.{statement}

@@ -1,9 +1,7 @@
 -- In the mode of bare lines the answer is that of the line by itself, and the mode stays; in that of a log a step is taken, and the number kept after it is the mode's.
-use mathlib.Core.Path.{_≡_, ap, ap₂, subst, sym}
-use lib.ListN.{length}
+use mathlib.Core.Path.{ap, ap₂, subst, sym}
 use Rattle.frame.specs.declared.Written.{Written}
 use Rattle.lines.specs.Feeding.{AnswersLine}
-use Rattle.lines.specs.declared.Stepped.{Stepped}
 use Rattle.lines.specs.declared.Mode.the-variants.{Bare, Log}
 use borrow.Author.Needs.{needs}
 use Rattle.lines.proofs.stream.answer_in.Statement.{statement}

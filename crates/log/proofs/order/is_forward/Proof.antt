@@ -1,6 +1,5 @@
 -- The two tests are the definition's own.
 use mathlib.Core.Path.{sym}
-use native.Mathlib.Omega.{arith}
 use borrow.Author.Tests.{lt-leb, le-leb}
 use Rattle.log.proofs.order.is_forward.Statement.{statement}
 use Rattle.log.proofs.order.is_forward.Tie as tie

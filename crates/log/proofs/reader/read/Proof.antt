@@ -1,14 +1,12 @@
 -- The first six digits and the others are decoded apart, and what the two show is the definition's own.
 use mathlib.Core.Path.{_≡_, sym, _∙_, ap, ap₂}
-use Prim.Native.Nat.{_-_, _<_}
+use Prim.Native.Nat.{_<_}
 use native.Mathlib.Omega.{arith}
-use lib.ListN.{length, take, drop, length-take, length-drop}
-use lib.Seq.{take-all}
+use lib.ListN.{length, take, drop, length-take}
 use borrow.Author.Tests.{not-true, not-false}
 use Rattle.outline.specs.Refusal.{isNone}
 use Rattle.moves.proofs.Carrying.{carried-zero, carried-some}
 use Rattle.moves.proofs.Listed.{reading-refusal}
-use Rattle.hex.specs.Text.{decoded}
 use Rattle.hex.proofs.HexText.{unhex-length}
 use Rattle.hex.proofs.Decoding.{decoded-other, decoded-textual, decoded-count, decoded-bytes, decoded-fits}
 use Rattle.moveline.specs.Reading.{readingOfFrame}
