@@ -22,7 +22,7 @@
  *
  * What a call costs, as tests/costs measures it:
  *
- * Stack    under 6 KB. Measured by painting a stack before the call: 5.4 KB for
+ * Stack    under 6 KB. Measured by painting a stack before the call: 5.5 KB for
  *          stonefruitle_log_step, 5.3 for stonefruitle_read_log, 5.1 for
  *          stonefruitle_read_move, 4.0 for stonefruitle_answer_line, 3.9 for
  *          stonefruitle_write_move and stonefruitle_read_line, less for the
