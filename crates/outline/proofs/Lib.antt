@@ -4,5 +4,6 @@ pub mod Reasons
 pub mod Ranges
 pub mod Pairs
 pub mod Places
+pub mod HeldSizes
 pub mod Testing
 pub mod Determined

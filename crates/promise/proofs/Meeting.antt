@@ -1,12 +1,11 @@
 -- Two wide outlines meet at a time exactly when the time is in the span of every side: a common point makes every side share a value there,
 -- and sides that all share values leave no way to keep the outlines apart.
-use mathlib.Core.Path.{_≡_, ap}
+use mathlib.Core.Path.{_≡_, ap, _∙_}
 use mathlib.Core.Bool.{true}
 use mathlib.Core.Logic.{_↔_}
 use Prim.Native.Nat.{ℕ, _+_, _≤_, _<_}
 use native.Mathlib.Omega.{arith}
 use lib.ListN.{length}
-use borrow.Author.Tests.{lt-ltb, le-ltb}
 use Rattle.whole.specs.Time.{time}
 use Rattle.plane.specs.Point.{side}
 use Rattle.plane.specs.Motion.{movedAll}
@@ -21,17 +20,13 @@ use Rattle.span.specs.InSpan.{InSpan}
 use Rattle.span.specs.Outcome.{spanAt}
 use Rattle.promise.specs.Promise.{InTime, MeetAt}
 use Rattle.promise.proofs.SideTimes.{span-is}
+use Rattle.verdict.proofs.SideOf.{side-of-a, side-of-b}
 use Rattle.verdict.proofs.SideSpans.{spans-at}
 
 -- ---- the sides are A's edges and then B's
 module _ (m : Move) where
-  sideOf-a : (i : ℕ) → i < length (m .a) → sideOf m i ≡ side (edge (m .a) i)
-  unfolding sideOf
-  sideOf-a i h = rw (lt-ltb i (length (m .a)) h)
-
   sideOf-b : (j : ℕ) → sideOf m (length (m .a) + j) ≡ side (edge (m .b) j)
-  unfolding sideOf
-  sideOf-b j = rw (le-ltb (length (m .a) + j) (length (m .a)) (omega arith)) (ap (λ k. side (edge (m .b) k)) (omega arith))
+  sideOf-b j = side-of-b m (length (m .a) + j) (omega arith) ∙ ap (λ k. side (edge (m .b) k)) (omega arith)
 
 -- ---- at a time
 module _ (m : Move) (wa : Wide (m .a)) (wb : Wide (m .b)) (n d : ℕ) where
@@ -39,7 +34,7 @@ module _ (m : Move) (wa : Wide (m .a)) (wb : Wide (m .b)) (n d : ℕ) where
   unfolding sharesAt
   meet-sides hd = (
     λ c k h. common-shares (movedAll n d (m .va) (m .a)) (movedAll n d (m .vb) (m .b)) c (sideOf m k),
-    λ f. shares-common-at n d hd (m .a) (m .va) (m .b) (m .vb) wa wb (λ i h. rw (← sideOf-a m i h) (f i (omega arith))) (λ j h. rw (← sideOf-b m j) (f (length (m .a) + j) (omega arith))),
+    λ f. shares-common-at n d hd (m .a) (m .va) (m .b) (m .vb) wa wb (λ i h. rw (← side-of-a m i h) (f i (omega arith))) (λ j h. rw (← sideOf-b m j) (f (length (m .a) + j) (omega arith))),
   )
 
   module _ (t : InTime m n d) where

@@ -1,41 +1,19 @@
 -- What the test of a touch shows: where the greater of the two lows is the lesser of the two highs, it is the one value that the intervals share;
 -- where intervals share a value and it is not, both are shared, and they differ.
 use mathlib.Core.Path.{_≡_, refl, sym, _∙_}
-use mathlib.Core.Bool.{Bool, true, false, not, cond, _&&_, and-eq-true-iff, false≢true}
-use mathlib.Core.Logic.{_⊎_, inl, inr, ⊎-elim}
+use mathlib.Core.Bool.{Bool, true, false, not, _&&_, and-eq-true-iff, false≢true}
+use mathlib.Core.Logic.{_⊎_, ⊎-elim}
 use mathlib.Core.List.{List}
 use Prim.Native.Nat.{_≤_}
 use lib.IntN.{ℤ}
 use lib.ListN.{length}
 use lib.Signed.{_≤ℤ_, _<ℤ_, ltZ}
-use Rattle.whole.specs.Best.{betterOf}
+use Rattle.whole.proofs.Betters.{greater, lesser, greater-is, lesser-is}
 use Rattle.whole.proofs.Linear.{ints}
 use Rattle.plane.specs.Interval.{low, high, shares, touches}
 use Rattle.plane.specs.declared.Corner.{Corner}
 use Rattle.plane.proofs.Intervals.{high-bound, low-member, shares-yes}
 use Rattle.promise.specs.Bears.{Shared, OneShared, MoreShared}
-
--- ---- the greater and the lesser of two numbers
-module _ (x y : ℤ) where
-  abbrev greater : ℤ
-  greater = betterOf (λ a b. ltZ b a) x y
-
-  abbrev lesser : ℤ
-  lesser = betterOf ltZ x y
-
-  greater-is : (x ≤ℤ greater) × (y ≤ℤ greater) × ((greater ≡ x) ⊎ (greater ≡ y))
-  greater-is = go (ltZ x y) refl
-    where
-      go : (t : Bool) → ltZ x y ≡ t → (x ≤ℤ cond t y x) × (y ≤ℤ cond t y x) × ((cond t y x ≡ x) ⊎ (cond t y x ≡ y))
-      go true e = (omega ints, omega ints, inr refl)
-      go false e = (omega ints, omega ints, inl refl)
-
-  lesser-is : (lesser ≤ℤ x) × (lesser ≤ℤ y) × ((lesser ≡ x) ⊎ (lesser ≡ y))
-  lesser-is = go (ltZ y x) refl
-    where
-      go : (t : Bool) → ltZ y x ≡ t → (cond t y x ≤ℤ x) × (cond t y x ≤ℤ y) × ((cond t y x ≡ x) ⊎ (cond t y x ≡ y))
-      go true e = (omega ints, omega ints, inr refl)
-      go false e = (omega ints, omega ints, inl refl)
 
 module _ (D : Corner) (A B : List Corner) (some-a : 1 ≤ length A) (some-b : 1 ≤ length B) where
   low-high : (C : List Corner) → 1 ≤ length C → low D C ≤ℤ high D C

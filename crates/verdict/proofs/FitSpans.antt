@@ -1,5 +1,5 @@
 -- The sides and the spans of a move that is fit: a side reaches at most twice as far as corners do, so projections and speeds are small, and each span is well made and has short times.
-use mathlib.Core.Path.{_≡_, refl, sym, subst, ap₂}
+use mathlib.Core.Path.{_≡_, refl, ap₂}
 use mathlib.Core.Bool.{Bool, true, false, cond}
 use Prim.Native.Nat.{ℕ, _+_, _-_, _^_, _≤_, _<_}
 use native.Mathlib.Omega.{arith}
@@ -12,36 +12,20 @@ use Rattle.whole.proofs.Bound.{bounds, within}
 use Rattle.span.proofs.Windows.{ShortSpan, window-short}
 use Rattle.span.proofs.Casts.{limit-short}
 use Rattle.span.proofs.Outcomes.{Made}
-use Rattle.plane.specs.Point.{step, side, dot}
+use Rattle.plane.specs.Point.{side, dot}
 use Rattle.plane.specs.Near.{Near}
-use Rattle.plane.specs.Edges.{corner, next, edge}
+use Rattle.plane.specs.Edges.{edge}
 use Rattle.plane.specs.Interval.{low, high}
 use Rattle.plane.specs.declared.Corner.{Corner}
 use Rattle.plane.proofs.Sizes.{dot-within, low-within, high-within}
-use Rattle.outline.specs.Held.{Held, cornersHeld}
-use Rattle.outline.specs.declared.Outline.{Outline}
-use Rattle.outline.proofs.Places.{held-length, held-corner, held-edge}
+use Rattle.outline.specs.Held.{cornersHeld}
+use Rattle.outline.proofs.Places.{held-length}
+use Rattle.outline.proofs.HeldSizes.{held-near, held-side}
 use Rattle.moves.specs.HeldMove.{Fit, moveHeld}
 use Rattle.verdict.specs.Sides.{sideCount, sideOf}
 use Rattle.verdict.specs.Span.{span, spans}
 use Rattle.moves.specs.declared.HeldMove.{HeldMove}
 use Rattle.verdict.proofs.SideSpans.{spans-length, spans-at, spans-good}
-
--- ---- an outline that is held
-step-near : (p q : Corner) → Near 10000 p → Near 10000 q → Near 20000 (side (step p q))
-step-near p q h k =
-    let px = h .near-x in
-    let py = h .near-y in
-    let qx = k .near-x in
-    let qy = k .near-y in
-    record { near-x = within (search bounds depth 12) tt; near-y = within (search bounds depth 12) tt }
-
-module _ (o : Outline) (h : Held o) where
-  held-near : (i : ℕ) → i < length (cornersHeld o) → Near 10000 (corner (cornersHeld o) i)
-  held-near i l = rw (held-corner o (h .kept) i (omega (arith, held-length o (h .kept)))) (h .near i)
-
-  held-side : (i : ℕ) → i < o .count → Near 20000 (side (edge (cornersHeld o) i))
-  held-side i l = subst (λ e. Near 20000 (side e)) (sym (held-edge o (h .kept) i l)) (step-near _ _ (h .near i) (h .near (next (o .count) i)))
 
 difference-short : (x y : ℤ) → Within 400000000 x → Within 400000000 y → natAbs (x -ℤ y) < 2 ^ 32
 difference-short x y h k = let b : Within 800000000 (x -ℤ y) = within (search bounds depth 12) tt in omega (arith, b .le)

@@ -1,3 +1,4 @@
+pub mod SideOf
 pub mod SideSpans
 pub mod FitSpans
 pub mod Answering

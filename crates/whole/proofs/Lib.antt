@@ -7,6 +7,7 @@ pub mod Order
 pub mod Machine
 pub mod Flags
 pub mod Indices
+pub mod Betters
 pub mod Members
 pub mod Tables
 pub mod Along
