@@ -10,6 +10,8 @@ use Rattle.outline.specs.Sound.{badEdge, isSound}
 use Rattle.outline.specs.Refusal.{firstThatApplies, counted, bothInRange, placed, carriedBy}
 use Rattle.outline.specs.declared.Refusal.the-variants.{None, Plain, AtEdge}
 use Rattle.outline.proofs.Ranges.{counted-yes, bothInRange-yes}
+use Rattle.outline.specs.Held.{cornersHeld}
+use Rattle.outline.proofs.Soundness.{sound-yes}
 use Rattle.outline.proofs.Testing.{padded-held}
 use Rattle.moves.specs.Move.{Move}
 use Rattle.moves.specs.HeldMove.{moveHeld, heldMove, Fit}
@@ -54,6 +56,8 @@ fit-yes h is e =
       held-b = padded-held (h .b) (ap (λ x. x .b) is) (omega (arith, nb .1)) (r .placed-b);
       some-a = omega (arith, na .0);
       some-b = omega (arith, nb .0);
+      sound-a = sound-yes (cornersHeld (h .a)) (r .sound-a);
+      sound-b = sound-yes (cornersHeld (h .b)) (r .sound-b);
       near-va = bothInRange-yes (h .va) (r .inRange-va);
       near-vb = bothInRange-yes (h .vb) (r .inRange-vb);
       from-zero = test-le (pos 0) (h .limit) (t .0);

@@ -1,11 +1,12 @@
 -- A move as it is held: two outlines in sixteen places each, two velocities and the limit.
 --   moveHeld h    the move that h holds
 --   heldMove m    the move m, held
---   Fit h         what an accepted move has: its outlines are held, its velocities near, its limit from 0 to 10,000
+--   Fit h         what an accepted move has: its outlines are held and sound, its velocities near, its limit from 0 to 10,000
 use Prim.Native.Nat.{_≤_}
 use lib.IntN.{pos}
 use lib.Signed.{_≤ℤ_}
 use Rattle.plane.specs.Near.{Near}
+use Rattle.outline.specs.Sound.{Sound}
 use Rattle.outline.specs.Held.{cornersHeld, held, Held}
 use Rattle.moves.specs.Move.{Move}
 use Rattle.moves.specs.declared.HeldMove.{HeldMove}
@@ -21,6 +22,8 @@ pub record Fit (h : HeldMove) : Type 0 where
   pub held-b : Held (h .b)
   pub some-a : 3 ≤ h .a .count
   pub some-b : 3 ≤ h .b .count
+  pub sound-a : Sound (cornersHeld (h .a))
+  pub sound-b : Sound (cornersHeld (h .b))
   pub near-va : Near 10000 (h .va)
   pub near-vb : Near 10000 (h .vb)
   pub from-zero : pos 0 ≤ℤ h .limit

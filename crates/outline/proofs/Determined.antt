@@ -6,6 +6,7 @@ use Rattle.outline.proofs.next.Reads as next
 use Rattle.outline.proofs.bad_edge.Reads as bad-edge
 use Rattle.outline.proofs.side.Reads as side
 use Rattle.outline.proofs.project.Reads as project
+use Rattle.outline.proofs.own_side.Reads as own-side
 use Rattle.outline.proofs.is_in_range.Reads as is-in-range
 use Rattle.outline.proofs.is_near.Reads as is-near
 use Rattle.outline.proofs.is_placed.Reads as is-placed
@@ -26,6 +27,9 @@ side-determined κs = determined (λ a r e p. p)
 
 pub project-determined : (κs : Lfts 0) → Determined (project.Learnt κs) (λ r e. r)
 project-determined κs = determined (λ a r e p. p)
+
+pub own-side-determined : (κs : Lfts 0) → Determined (own-side.Learnt κs) (λ r e. r)
+own-side-determined κs = determined (λ a r e p. p)
 
 pub is-in-range-determined : (κs : Lfts 0) → Determined (is-in-range.Learnt κs) (λ r e. r)
 is-in-range-determined κs = determined (λ a r e p. p)

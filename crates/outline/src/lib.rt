@@ -10,11 +10,11 @@ ghost use Rattle.whole.specs.Lowest.{every};
 ghost use Rattle.plane.specs.Point.{step, cross, side};
 ghost use Rattle.plane.specs.Near.{Near};
 ghost use Rattle.plane.specs.Edges.{next, edge};
-ghost use Rattle.outline.specs.Sound.{left, badEdge};
+ghost use Rattle.outline.specs.Sound.{Sound, left, badEdge};
 ghost use Rattle.outline.specs.Held.{Kept, Held, cornersHeld, held};
 ghost use Rattle.outline.specs.Coordinates.{cornersOf};
 ghost use Rattle.outline.specs.Refusal.{inRange, bothInRange, placed, counted, isNone, numberIn};
-ghost use Rattle.outline.specs.Tested.{tested, refusedAs, interval};
+ghost use Rattle.outline.specs.Tested.{tested, refusedAs, interval, ownSide};
 use plane::Corner;
 
 // Sixteen corner places held by value, unused ones zero, and the count of those used.
@@ -27,6 +27,12 @@ pub struct Outline {
 pub struct Interval {
     pub low: i64,
     pub high: i64,
+}
+
+// A side that an outline gives: its direction, and the outline's interval on it.
+pub struct OwnSide {
+    pub d: Corner,
+    pub on: Interval,
 }
 
 // A refusal with what it carries: none; one by its number alone; 8 or 9 with the lowest edge that has a corner not strictly to its left.
@@ -133,6 +139,17 @@ pub fn bad_edge(o: Outline) -> usize
     n
 }
 
+// The direction of the side that the edge from p to q gives.
+fn direction(p: Corner, q: Corner) -> Corner
+    requires { ⌜ Near 10000 p × Near 10000 q ⌝ }
+    ensures { λ r. ⌜ r ≡ side (step p q) ⌝ }
+{
+    Corner {
+        x: q.y - p.y,
+        y: p.x - q.x,
+    }
+}
+
 // The direction of the side that edge i gives.
 pub fn side(o: Outline, i: usize) -> Corner
     requires { ⌜ Held o × (i < o .count) ⌝ }
@@ -140,12 +157,7 @@ pub fn side(o: Outline, i: usize) -> Corner
 {
     let n = o.count;
     let j = next(n, i);
-    let p = o.corners[i];
-    let q = o.corners[j];
-    Corner {
-        x: q.y - p.y,
-        y: p.x - q.x,
-    }
+    direction(o.corners[i], o.corners[j])
 }
 
 // The interval of an outline in the direction d, in one pass over its corners.
@@ -166,6 +178,27 @@ pub fn project(o: Outline, d: Corner) -> Interval
         k += 1;
     }
     Interval { low, high }
+}
+
+// The side that edge i of a sound outline gives. No corner projects above the edge's two ends, so the greatest is taken from its start,
+// and only the least is looked for, among the corners after its end until the start comes round again.
+pub fn own_side(o: Outline, i: usize) -> OwnSide
+    requires { ⌜ Held o × (i < o .count) × Sound (cornersHeld o) ⌝ }
+    ensures { λ r. ⌜ r ≡ ownSide (cornersHeld o) i ⌝ }
+{
+    let n = o.count;
+    let j = next(n, i);
+    let mut k = next(n, j);
+    let d = direction(o.corners[i], o.corners[j]);
+    let high = plane::dot(d, o.corners[i]);
+    let mut low = high;
+    while k != i {
+        let v = plane::dot(d, o.corners[k]);
+        low = whole::lesser(low, v);
+        k = next(n, k);
+    }
+    let on = Interval { low, high };
+    OwnSide { d, on }
 }
 
 // Whether z is from -10,000 to 10,000.

@@ -3,6 +3,7 @@ pub mod Intervals
 pub mod Extreme
 pub mod Wide
 pub mod Own
+pub mod Round
 pub mod Weights
 pub mod Hull
 pub mod Common

@@ -23,6 +23,7 @@ use Rattle.outline.proofs.Places.{held-length}
 use Rattle.outline.proofs.HeldSizes.{held-near, held-side}
 use Rattle.moves.specs.HeldMove.{Fit, moveHeld}
 use Rattle.verdict.specs.Sides.{sideCount, sideOf}
+use Rattle.verdict.specs.Projections.{projections, Small}
 use Rattle.verdict.specs.Span.{span, spans}
 use Rattle.moves.specs.declared.HeldMove.{HeldMove}
 use Rattle.verdict.proofs.SideSpans.{spans-length, spans-at, spans-good}
@@ -48,7 +49,7 @@ module _ (m : HeldMove) (f : Fit m) where
     abbrev D : Corner
     D = sideOf (moveHeld m) k
 
-    pub side-near : Near 20000 (sideOf (moveHeld m) k)
+    side-near : Near 20000 (sideOf (moveHeld m) k)
     unfolding sideOf
     side-near = go (ltb k (length (cornersHeld (m .a)))) refl
       where
@@ -56,23 +57,26 @@ module _ (m : HeldMove) (f : Fit m) where
         go true e = held-side (m .a) (f .held-a) k (omega (arith, ltb-true, held-length (m .a) (f .held-a .kept)))
         go false e = held-side (m .b) (f .held-b) (k - length (cornersHeld (m .a))) (omega (arith, ltb-false, held-length (m .b) (f .held-b .kept)))
 
-    pub low-a-within : Within 400000000 (low D (cornersHeld (m .a)))
+    low-a-within : Within 400000000 (low D (cornersHeld (m .a)))
     low-a-within = low-within D (cornersHeld (m .a)) side-near some-corners-a (held-near (m .a) (f .held-a))
 
-    pub low-b-within : Within 400000000 (low D (cornersHeld (m .b)))
+    low-b-within : Within 400000000 (low D (cornersHeld (m .b)))
     low-b-within = low-within D (cornersHeld (m .b)) side-near some-corners-b (held-near (m .b) (f .held-b))
 
-    pub high-a-within : Within 400000000 (high D (cornersHeld (m .a)))
+    high-a-within : Within 400000000 (high D (cornersHeld (m .a)))
     high-a-within = high-within D (cornersHeld (m .a)) side-near some-corners-a (held-near (m .a) (f .held-a))
 
-    pub high-b-within : Within 400000000 (high D (cornersHeld (m .b)))
+    high-b-within : Within 400000000 (high D (cornersHeld (m .b)))
     high-b-within = high-within D (cornersHeld (m .b)) side-near some-corners-b (held-near (m .b) (f .held-b))
 
-    pub speed-a-within : Within 400000000 (dot D (m .va))
+    speed-a-within : Within 400000000 (dot D (m .va))
     speed-a-within = dot-within D (m .va) side-near (f .near-va)
 
-    pub speed-b-within : Within 400000000 (dot D (m .vb))
+    speed-b-within : Within 400000000 (dot D (m .vb))
     speed-b-within = dot-within D (m .vb) side-near (f .near-vb)
+
+    pub side-small : Small (projections (moveHeld m) k)
+    side-small = record { near = side-near; low-a = low-a-within; high-a = high-a-within; low-b = low-b-within; high-b = high-b-within }
 
     span-short : ShortSpan (span (moveHeld m) k)
     unfolding span

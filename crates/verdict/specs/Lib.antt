@@ -1,4 +1,5 @@
 pub mod Sides
+pub mod Projections
 pub mod Span
 pub mod Verdict
 pub mod Answer

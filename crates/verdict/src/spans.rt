@@ -1,32 +1,83 @@
 // The spans of a move's sides.
 ghost use mathlib.Core.Path.{_≡_};
-ghost use Prim.Native.Nat.{_<_};
+ghost use Prim.Native.Nat.{_≤_, _<_};
+ghost use lib.IntN.{pos};
+ghost use lib.Signed.{_≤ℤ_};
 ghost use Rattle.span.specs.Outcome.{outcome};
 ghost use Rattle.moves.specs.HeldMove.{Fit, moveHeld};
 ghost use Rattle.verdict.specs.Sides.{sideCount, sideOf};
+ghost use Rattle.verdict.specs.Projections.{projections, Small, windowOf, touch};
 ghost use Rattle.plane.specs.Interval.{touches};
+ghost use Rattle.plane.specs.Near.{Near};
 ghost use Rattle.verdict.specs.Span.{span, spans};
 ghost use Rattle.verdict.specs.Verdict.{touchingSide};
 use moves::HeldMove;
-use outline::Outline;
+use outline::Interval;
 use plane::Corner;
 use span::Lead;
 use span::Outcome;
 use span::Span;
 use whole::Time;
 
-// The direction of side k: A's edges in order from 0, then B's.
-fn side(m: HeldMove, k: usize) -> Corner
-    requires { ⌜ Fit m × (k < sideCount (moveHeld m)) ⌝ }
-    ensures { λ r. ⌜ r ≡ sideOf (moveHeld m) k ⌝ }
+// A side: its direction, and the intervals of A and of B on it.
+struct Projections {
+    d: Corner,
+    a: Interval,
+    b: Interval,
+}
+
+// Side k, which edge k of A gives.
+fn side_of_a(m: HeldMove, k: usize) -> Projections
+    requires { ⌜ Fit m × (k < m .a .count) ⌝ }
+    ensures { λ r. ⌜ r ≡ projections (moveHeld m) k ⌝ }
 {
     let a = m.a;
-    let n = a.count;
-    if k < n {
-        return outline::side(a, k);
-    }
     let b = m.b;
-    outline::side(b, k - n)
+    let own = outline::own_side(a, k);
+    let d = own.d;
+    let on_a = own.on;
+    let on_b = outline::project(b, d);
+    Projections {
+        d,
+        a: on_a,
+        b: on_b,
+    }
+}
+
+// Side k, which an edge of B gives: A's edges come first.
+fn side_of_b(m: HeldMove, k: usize) -> Projections
+    requires { ⌜ Fit m × (m .a .count ≤ k) × (k < sideCount (moveHeld m)) ⌝ }
+    ensures { λ r. ⌜ r ≡ projections (moveHeld m) k ⌝ }
+{
+    let a = m.a;
+    let b = m.b;
+    let own = outline::own_side(b, k - a.count);
+    let d = own.d;
+    let on_a = outline::project(a, d);
+    let on_b = own.on;
+    Projections {
+        d,
+        a: on_a,
+        b: on_b,
+    }
+}
+
+// The times from 0 to the limit at which the intervals of a side share a value, from the velocities of both outlines.
+fn window_of(p: Projections, va: Corner, vb: Corner, limit: i64) -> Span
+    requires { ⌜ Small p × Near 10000 va × Near 10000 vb × (pos 0 ≤ℤ limit) × (limit ≤ℤ pos 10000) ⌝ }
+    ensures { λ r. ⌜ r ≡ windowOf p va vb limit ⌝ }
+{
+    let d = p.d;
+    let on_a = p.a;
+    let on_b = p.b;
+    let speed_a = plane::dot(d, va);
+    let speed_b = plane::dot(d, vb);
+    span::window(
+        on_a.low - on_b.high,
+        on_a.high - on_b.low,
+        speed_b - speed_a,
+        limit,
+    )
 }
 
 // The span of side k.
@@ -34,19 +85,11 @@ fn span(m: HeldMove, k: usize) -> Span
     requires { ⌜ Fit m × (k < sideCount (moveHeld m)) ⌝ }
     ensures { λ r. ⌜ r ≡ span (moveHeld m) k ⌝ }
 {
-    let d = side(m, k);
     let a = m.a;
-    let b = m.b;
-    let on_a = outline::project(a, d);
-    let on_b = outline::project(b, d);
-    let speed_a = plane::dot(d, m.va);
-    let speed_b = plane::dot(d, m.vb);
-    span::window(
-        on_a.low - on_b.high,
-        on_a.high - on_b.low,
-        speed_b - speed_a,
-        m.limit,
-    )
+    if k < a.count {
+        return window_of(side_of_a(m, k), m.va, m.vb, m.limit);
+    }
+    window_of(side_of_b(m, k), m.va, m.vb, m.limit)
 }
 
 // What the spans of all sides have in common, side by side from 0; it is known at the first empty span.
@@ -81,22 +124,30 @@ pub fn outcome(m: HeldMove) -> Outcome
     span::concluded(first, last)
 }
 
-// Whether the two intervals of side k share exactly one value at time zero.
-fn touches(m: HeldMove, k: usize) -> bool
-    requires { ⌜ Fit m × (k < sideCount (moveHeld m)) ⌝ }
-    ensures { λ r. ⌜ r ≡ touches (sideOf (moveHeld m) k) (moveHeld m .a) (moveHeld m .b) ⌝ }
+// Whether the two intervals of a side share exactly one value.
+fn touch(p: Projections) -> bool
+    ensures { λ r. ⌜ r ≡ touch p ⌝ }
 {
-    let d = side(m, k);
-    let a = m.a;
-    let b = m.b;
-    let on_a = outline::project(a, d);
-    let on_b = outline::project(b, d);
+    let on_a = p.a;
+    let on_b = p.b;
     let low = whole::greater(on_a.low, on_b.low);
     let high = whole::lesser(on_a.high, on_b.high);
     if low < high {
         return false;
     }
     !(high < low)
+}
+
+// Whether the two intervals of side k share exactly one value at time zero.
+fn touches(m: HeldMove, k: usize) -> bool
+    requires { ⌜ Fit m × (k < sideCount (moveHeld m)) ⌝ }
+    ensures { λ r. ⌜ r ≡ touches (sideOf (moveHeld m) k) (moveHeld m .a) (moveHeld m .b) ⌝ }
+{
+    let a = m.a;
+    if k < a.count {
+        return touch(side_of_a(m, k));
+    }
+    touch(side_of_b(m, k))
 }
 
 // The lowest side on which they do, or the number of sides where there is none.
