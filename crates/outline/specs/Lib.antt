@@ -1,4 +1,5 @@
 pub mod Sound
+pub mod Box
 pub mod Star
 pub mod Coordinates
 pub mod Refusal

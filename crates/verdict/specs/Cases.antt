@@ -5,6 +5,7 @@ use lib.IntN.{ℤ, pos, negℤ}
 use Rattle.whole.specs.Time.{time}
 use Rattle.plane.specs.Point.{point, origin}
 use Rattle.plane.specs.declared.Corner.{Corner}
+use Rattle.outline.specs.Box.{box}
 use Rattle.outline.specs.Star.{star}
 use Rattle.moves.specs.Move.{Move}
 use Rattle.verdict.specs.declared.Bearing.{Bearing}
@@ -17,10 +18,6 @@ use Rattle.verdict.specs.declared.Answer.the-variants.{ClearByOne, Clear
 
 abbrev pub minus : ℕ → ℤ
 minus n = negℤ (pos n)
-
--- the upright box with these low and high corners, counterclockwise from its low corner
-abbrev pub box : ℤ → ℤ → ℤ → ℤ → List Corner
-box lx ly hx hy = point lx ly ∷ point hx ly ∷ point hx hy ∷ point lx hy ∷ []
 
 -- S+(x,y), the square of side 2 whose low corner is (x,y)
 abbrev pub square : ℕ → ℕ → List Corner
