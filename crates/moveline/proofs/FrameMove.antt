@@ -1,37 +1,26 @@
 -- A frame gives back its move and a move its frame: the bytes of one number, of a pair, of a list of corners and of the whole, each with what follows it.
 use mathlib.Core.Path.{_≡_, refl, sym, ap, ap₂, _∙_}
-use mathlib.Core.Bool.{true}
 use mathlib.Core.List.{List, [], _∷_, _++_, flatMap, append-nil}
-use Prim.Native.Nat.{ℕ, zero, suc, _+_, _*_, _/_, _%_, _≤_, _<_}
-use native.Mathlib.Numerals.{add-one, add-two}
+use Prim.Native.Nat.{ℕ, zero, suc, _+_, _*_, _≤_, _<_}
+use native.Mathlib.Numerals.{add-one}
 use native.Mathlib.Omega.{arith}
-use lib.IntN.{ℤ, pos, natAbs}
+use lib.IntN.{natAbs}
 use lib.ListN.{length, take, drop, length-append, length-drop}
 use lib.Seq.{length-take-le, drop-cons, drop-drop, drop-at, take-at, take-all}
-use Rattle.whole.specs.Within.{Within}
-use Rattle.plane.specs.Point.{point}
 use Rattle.plane.specs.Near.{Near}
 use Rattle.plane.specs.Edges.{corner}
 use Rattle.plane.specs.declared.Corner.{Corner}
 use Rattle.outline.proofs.Ranges.{counted-yes, bothInRange-yes, placed-yes}
 use Rattle.moves.specs.Move.{Move}
-use Rattle.moves.specs.Refusal.{limited}
-use Rattle.moves.proofs.Accepted.{Accepted, limited-yes}
-use Rattle.hex.specs.Bytes.{bytes2, number2, twos, signed}
-use Rattle.moveline.specs.MoveFrame.{pairBytes, moveFrame, pairAt, cornersIn, moveOfFrame}
-use Rattle.hex.specs.Bytes.{byteAt, numberAt}
-use Rattle.hex.proofs.ByteLists.{Bytes, byteAt-bound, append-bytes, drop-bytes}
-use Rattle.hex.proofs.NumberBytes.{mag-within, number2-bytes2, bytes2-number2, number2-bound, twos-bound, signed-twos, twos-signed}
+use Rattle.moves.proofs.Accepted.{Accepted}
+use Rattle.hex.specs.Bytes.{bytes2}
+use Rattle.moveline.specs.Pair.{pairBytes, pairAt}
+use Rattle.moveline.specs.MoveFrame.{moveFrame, cornersIn, moveOfFrame}
+use Rattle.hex.specs.Bytes.{byteAt}
+use Rattle.moveline.proofs.PairBytes.{pairAt-pairBytes, limit-bytes, bytes2-numberAt, pairBytes-pairAt}
+use Rattle.hex.proofs.ByteLists.{Bytes, append-bytes, drop-bytes}
 
 -- ---- from the numbers to the bytes and back
-signed-number : (z : ℤ) → Within 10000 z → signed (number2 (twos z / 256 % 256) (twos z % 256)) ≡ z
-signed-number z h =
-    let k = mag-within z h in
-    rw (number2-bytes2 (twos z) (twos-bound z k), signed-twos z k)
-
-pub pairAt-pairBytes : (p : Corner) (r : List ℕ) → Near 10000 p → pairAt (pairBytes p ++ r) 0 ≡ p
-pairAt-pairBytes p r h = ap₂ point (signed-number (p .x) (h .near-x)) (signed-number (p .y) (h .near-y))
-
 pub corners-length : (A : List Corner) → length (flatMap pairBytes A) ≡ 4 * length A
 unfolding flatMap
 corners-length [] = refl
@@ -48,20 +37,6 @@ cornersIn-corners [] r h = refl
 cornersIn-corners (p ∷ A) r h = ap₂ _∷_ (pairAt-pairBytes p [] (h 0 (omega arith))) (cornersIn-corners A r (λ i k. h (suc i) (omega arith)))
 
 -- ---- from the bytes to the numbers and back
-bytes2-numberAt : (f : List ℕ) (i : ℕ) → Bytes f → i + 2 ≤ length f → bytes2 (numberAt f i) ++ drop (i + 2) f ≡ drop i f
-bytes2-numberAt f i b h =
-    let two : drop i f ≡ byteAt f i ∷ byteAt f (i + 1) ∷ drop (i + 2) f = rw (add-one, add-two) (drop-cons f i 0 (omega arith) ∙ ap (λ l. byteAt f i ∷ l) (drop-cons f (suc i) 0 (omega arith))) in
-    ap (λ l. l ++ drop (i + 2) f) (bytes2-number2 _ _ (byteAt-bound f b i) (byteAt-bound f b (i + 1))) ∙ sym two
-
-numberAt-bound : (f : List ℕ) (i : ℕ) → Bytes f → numberAt f i < 65536
-numberAt-bound f i b = number2-bound _ _ (byteAt-bound f b i) (byteAt-bound f b (i + 1))
-
-pairBytes-pairAt : (f : List ℕ) (i : ℕ) → Bytes f → i + 4 ≤ length f → pairBytes (pairAt f i) ++ drop (i + 4) f ≡ drop i f
-pairBytes-pairAt f i b h =
-    let e : i + 4 ≡ (i + 2) + 2 = omega arith in
-    rw (twos-signed (numberAt f i) (numberAt-bound f i b), twos-signed (numberAt f (i + 2)) (numberAt-bound f (i + 2) b), e)
-    (ap (λ l. bytes2 (numberAt f i) ++ l) (bytes2-numberAt f (i + 2) b (omega arith)) ∙ bytes2-numberAt f i b (omega arith))
-
 -- the bytes of the first n corners, then the rest
 corners-then : (f : List ℕ) (n : ℕ) → Bytes f → 4 * n ≤ length f → flatMap pairBytes (cornersIn f n) ++ drop (4 * n) f ≡ f
 unfolding flatMap cornersIn
@@ -97,11 +72,6 @@ module _ (f : List ℕ) (b : Bytes f) (one : byteAt f 0 ≡ 1) (h : length f ≡
   unfolding moveFrame moveOfFrame
   moveFrame-moveOfFrame =
       rw (cornersIn-length _ (byteAt f 1), cornersIn-length _ (byteAt f 2), second-bytes, first-bytes, pairBytes-pairAt f 9 b (omega arith), pairBytes-pairAt f 5 b (omega arith), bytes2-numberAt f 3 b (omega arith)) start-bytes
-
-limit-bytes : (T : ℤ) → limited T ≡ true → pos (number2 (natAbs T / 256 % 256) (natAbs T % 256)) ≡ T
-limit-bytes T e =
-    let k = limited-yes T e in
-    rw (k .1) (ap pos (number2-bytes2 (k .0) (omega arith)))
 
 pub moveOfFrame-moveFrame : (m : Move) → Accepted m → moveOfFrame (moveFrame m) ≡ m
 unfolding moveFrame moveOfFrame

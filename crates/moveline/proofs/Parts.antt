@@ -13,7 +13,8 @@ use Rattle.outline.specs.Refusal.{counted}
 use Rattle.outline.proofs.Ranges.{counted-yes}
 use Rattle.hex.specs.Bytes.{number2, signed}
 use Rattle.hex.specs.Bytes.{byteAt, numberAt}
-use Rattle.moveline.specs.MoveFrame.{pairAt, cornersIn}
+use Rattle.moveline.specs.Pair.{pairAt}
+use Rattle.moveline.specs.MoveFrame.{cornersIn}
 use Rattle.moveline.specs.Reading.{sized}
 use Rattle.moveline.proofs.AcceptedLine.{sized-yes}
 

@@ -5,6 +5,7 @@
 --   line-written     the line written for it is that line and 0a
 --   line-unique      accepted lines of one move are one line
 --   accepted         the move of an accepted line is accepted
+--   line-first       its first byte is 01
 --   line-unbroken    an accepted line has no byte 0a
 use mathlib.Core.Path.{_≡_, refl, sym, ap, _∙_}
 use mathlib.Core.List.{List, [], _∷_, _++_}
@@ -15,6 +16,7 @@ use Rattle.outline.proofs.Ranges.{counted-yes}
 use Rattle.moves.specs.Move.{Move}
 use Rattle.moves.specs.Refusal.{refusal}
 use Rattle.moves.proofs.Accepted.{accepted-yes}
+use Rattle.hex.specs.Bytes.{byteAt}
 use Rattle.hex.specs.Hex.{hex, unhex}
 use Rattle.moveline.specs.MoveFrame.{moveFrame, moveLine, moveOfFrame}
 use Rattle.moveline.specs.Reading.{refusalOfLine, moveOfLine}
@@ -66,6 +68,9 @@ line-unique l k p q e = sym (written-read l p) ∙ ap (λ m. hex (moveFrame m)) 
 pub accepted : (l : List ℕ) → refusalOfLine l ≡ 0 → refusal (moveOfLine l) ≡ 0
 unfolding moveOfLine
 accepted l e = acceptedLine-yes l e .frame .move
+
+pub line-first : (l : List ℕ) → refusalOfLine l ≡ 0 → byteAt (unhex l) 0 ≡ 1
+line-first l e = acceptedLine-yes l e .frame .first
 
 pub line-unbroken : (l : List ℕ) → refusalOfLine l ≡ 0 → ¬ Mem 10 l
 line-unbroken l e = digits-unbroken l (acceptedLine-yes l e .text .digital)

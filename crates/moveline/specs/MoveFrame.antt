@@ -6,24 +6,17 @@ use mathlib.Core.List.{List, [], _∷_, _++_, flatMap}
 use Prim.Native.Nat.{ℕ, zero, suc, _+_, _*_}
 use lib.IntN.{pos, natAbs}
 use lib.ListN.{length, drop}
-use Rattle.plane.specs.Point.{point}
 use Rattle.plane.specs.declared.Corner.{Corner}
 use Rattle.moves.specs.Move.{Move}
-use Rattle.hex.specs.Bytes.{bytes2, byteAt, numberAt, twos, signed}
+use Rattle.moveline.specs.Pair.{pairBytes, pairAt}
+use Rattle.hex.specs.Bytes.{bytes2, byteAt, numberAt}
 use Rattle.hex.specs.Hex.{hexLine}
-
-abbrev pub pairBytes : Corner → List ℕ
-pairBytes p = bytes2 (twos (p .x)) ++ bytes2 (twos (p .y))
 
 unfoldable pub moveFrame : Move → List ℕ
 moveFrame m = 1 ∷ length (m .a) ∷ length (m .b) ∷ bytes2 (natAbs (m .limit)) ++ pairBytes (m .va) ++ pairBytes (m .vb) ++ flatMap pairBytes (m .a) ++ flatMap pairBytes (m .b)
 
 unfoldable pub moveLine : Move → List ℕ
 moveLine m = hexLine (moveFrame m)
-
--- the two signed numbers whose bytes start at i
-abbrev pub pairAt : List ℕ → ℕ → Corner
-pairAt f i = point (signed (numberAt f i)) (signed (numberAt f (i + 2)))
 
 -- the first n corners of a part of a frame
 unfoldable pub cornersIn : List ℕ → ℕ → List Corner

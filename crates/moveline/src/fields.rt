@@ -5,33 +5,12 @@ ghost use Prim.Native.Nat.{_+_, _*_, _≤_};
 ghost use lib.ListN.{length};
 ghost use Rattle.outline.specs.Held.{held};
 ghost use Rattle.moves.specs.HeldMove.{heldMove};
-ghost use Rattle.hex.specs.Bytes.{number2, signed};
-ghost use Rattle.moveline.specs.MoveFrame.{pairAt, cornersIn, moveOfFrame};
+ghost use Rattle.moveline.specs.MoveFrame.{cornersIn, moveOfFrame};
 ghost use Rattle.moveline.specs.Reading.{sized};
+use super::pairs;
 use moves::HeldMove;
 use outline::Outline;
 use plane::Corner;
-
-// The signed number of two bytes.
-fn signed(high: u8, low: u8) -> i64
-    ensures { λ r. ⌜ r ≡ signed (number2 high low) ⌝ }
-{
-    let n = (high as i64) * 256 + (low as i64);
-    if n < 32768 {
-        return n;
-    }
-    n - 65536
-}
-
-// The two signed numbers whose bytes start at `at`.
-fn pair_at(part: &[u8], at: usize) -> Corner
-    requires { ⌜ at + 4 ≤ length (now part) ⌝ }
-    ensures { λ r. ⌜ r ≡ pairAt (now (part .entry)) at ⌝ }
-{
-    let x = signed(part[at], part[at + 1]);
-    let y = signed(part[at + 2], part[at + 3]);
-    Corner { x, y }
-}
 
 // The outline whose n corners a part of a frame starts with.
 fn outline_in(part: &[u8], n: usize) -> Outline
@@ -41,7 +20,7 @@ fn outline_in(part: &[u8], n: usize) -> Outline
     let mut corners = [Corner { x: 0, y: 0 }; 16];
     let mut i: usize = 0;
     while i < n {
-        let p = pair_at(part, 4 * i);
+        let p = pairs::pair_at(part, 4 * i);
         corners[i] = p;
         i += 1;
     }
@@ -79,8 +58,8 @@ pub fn move_in(frame: &[u8]) -> HeldMove
     HeldMove {
         a: outline_in(&frame[13..], a),
         b: outline_in(&frame[middle..], b),
-        va: pair_at(frame, 5),
-        vb: pair_at(frame, 9),
+        va: pairs::pair_at(frame, 5),
+        vb: pairs::pair_at(frame, 9),
         limit,
     }
 }

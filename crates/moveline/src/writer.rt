@@ -2,25 +2,16 @@
 ghost use mathlib.Core.Path.{_≡_};
 ghost use mathlib.Core.List.{_++_, flatMap};
 ghost use Prim.Native.Nat.{_+_, _*_, _≤_};
-ghost use Rattle.plane.specs.Near.{Near};
 ghost use Rattle.outline.specs.Held.{Held, cornersHeld};
 ghost use Rattle.moves.specs.HeldMove.{Fit, moveHeld};
 ghost use Rattle.hex.specs.Frame.{framed, frameBytes, Whole};
-ghost use Rattle.moveline.specs.MoveFrame.{pairBytes, moveFrame};
+ghost use Rattle.moveline.specs.Pair.{pairBytes};
+ghost use Rattle.moveline.specs.MoveFrame.{moveFrame};
+use super::pairs;
 use hex::Frame;
 use hex::frames;
 use moves::HeldMove;
 use outline::Outline;
-use plane::Corner;
-
-// The frame f with the four bytes of a corner or a velocity more.
-fn push_pair(f: Frame, p: Corner) -> Frame
-    requires { ⌜ Whole f × (f .count + 4 ≤ 141) × Near 10000 p ⌝ }
-    ensures { λ r. ⌜ r ≡ framed (frameBytes f ++ pairBytes p) ⌝ }
-{
-    let g = frames::push_signed(f, p.x);
-    frames::push_signed(g, p.y)
-}
 
 // The frame f with the bytes of an outline's corners more.
 fn push_outline(f: Frame, o: Outline) -> Frame
@@ -32,7 +23,7 @@ fn push_outline(f: Frame, o: Outline) -> Frame
     let mut i: usize = 0;
     while i < n {
         let p = o.corners[i];
-        g = push_pair(g, p);
+        g = pairs::push_pair(g, p);
         i += 1;
     }
     g
@@ -53,8 +44,8 @@ pub fn move_frame(m: HeldMove) -> Frame
     let count_a = frames::push(kind, a.count as u8);
     let count_b = frames::push(count_a, b.count as u8);
     let limit = frames::push2(count_b, m.limit as u64);
-    let speed_a = push_pair(limit, m.va);
-    let speed_b = push_pair(speed_a, m.vb);
+    let speed_a = pairs::push_pair(limit, m.va);
+    let speed_b = pairs::push_pair(speed_a, m.vb);
     let corners_a = push_outline(speed_b, a);
     push_outline(corners_a, b)
 }

@@ -13,7 +13,7 @@ use Rattle.moveline.proofs.fields.move_in.Tie as tie
 use Rattle.moveline.proofs.fields.move_in.Reads as reads
 use Rattle.moveline.proofs.fields.move_in.Lts as lts
 use Rattle.moveline.proofs.fields.outline_in.Reads as outline-in-reads
-use Rattle.moveline.proofs.fields.pair_at.Reads as pair-at-reads
+use Rattle.moveline.proofs.pairs.pair_at.Reads as pair-at-reads
 
 -- the counts of the frame, and its length
 room : (s : lts.Start (outline-in-reads.Asked, outline-in-reads.Learnt, pair-at-reads.Asked, pair-at-reads.Learnt) reads.Pre reads.Post) → Room (s .args .frame .now)

@@ -16,7 +16,8 @@ use Rattle.outline.proofs.Places.{held-length}
 use Rattle.moves.specs.HeldMove.{Fit}
 use Rattle.moves.specs.declared.HeldMove.{HeldMove}
 use Rattle.hex.specs.Bytes.{bytes2}
-use Rattle.moveline.specs.MoveFrame.{pairBytes, moveFrame}
+use Rattle.moveline.specs.Pair.{pairBytes}
+use Rattle.moveline.specs.MoveFrame.{moveFrame}
 use Rattle.hex.specs.Frame.{framed}
 use Rattle.moveline.proofs.FrameMove.{corners-length}
 use Rattle.hex.proofs.Pushing.{empty-whole, Grown, next, chain}
@@ -28,7 +29,7 @@ use Rattle.moveline.proofs.writer.move_frame.Lts as lts
 use Rattle.hex.proofs.frames.push.Reads as push-reads
 use Rattle.hex.proofs.frames.push2.Reads as push2-reads
 use Rattle.moveline.proofs.writer.push_outline.Reads as push-outline-reads
-use Rattle.moveline.proofs.writer.push_pair.Reads as push-pair-reads
+use Rattle.moveline.proofs.pairs.push_pair.Reads as push-pair-reads
 
 limit-from : (z : ℤ) → pos 0 ≤ℤ z → z ≤ℤ pos 10000 → T (nonNeg z) × (natAbs z ≤ 10000) × SFits w64 z
 limit-from (pos n) h k = let few : n ≤ 10000 = omega ints in (tt, few, record { sfits = omega arith })

@@ -4,7 +4,7 @@ use Prim.Native.Nat.{_-_, _≤_, _<_}
 use native.Mathlib.Omega.{arith}
 use lib.ListN.{length, take}
 use Rattle.plane.specs.Edges.{corner}
-use Rattle.moveline.specs.MoveFrame.{pairBytes}
+use Rattle.moveline.specs.Pair.{pairBytes}
 use Rattle.hex.proofs.Pushing.{Grown, grown-none, next, chain}
 use Rattle.moveline.proofs.FrameMove.{corners-first, corners-step}
 use borrow.Author.Needs.{needs}

@@ -12,8 +12,8 @@ use borrow.Author.Needs.{needs}
 use Rattle.hex.specs.Bytes.{number2}
 use Rattle.hex.proofs.NumberBytes.{number2-bound}
 use Rattle.hex.proofs.Words.{high-fits, word-fits, word-is, below-fits}
-use Rattle.moveline.proofs.fields.signed.Statement.{statement}
-use Rattle.moveline.proofs.fields.signed.Tie as tie
+use Rattle.moveline.proofs.pairs.signed.Statement.{statement}
+use Rattle.moveline.proofs.pairs.signed.Tie as tie
 
 cast-n : tie.Need-cast-n
 cast-n c = search needs

@@ -8,8 +8,8 @@ use borrow.Author.Needs.{needs, sfits-of}
 use Rattle.plane.specs.Point.{point}
 use Rattle.hex.specs.Bytes.{number2, signed}
 use Rattle.hex.specs.Bytes.{byteAt}
-use Rattle.moveline.proofs.fields.pair_at.Statement.{statement}
-use Rattle.moveline.proofs.fields.pair_at.Tie as tie
+use Rattle.moveline.proofs.pairs.pair_at.Statement.{statement}
+use Rattle.moveline.proofs.pairs.pair_at.Tie as tie
 
 shared-slice-read-signed : tie.Need-shared-slice-read-signed
 shared-slice-read-signed c = search needs

@@ -6,10 +6,10 @@ use mir.Val.{toZ, ofZ}
 use Rattle.hex.specs.Bytes.{bytes2, twos}
 use Rattle.hex.proofs.Pushing.{Grown, next, chain}
 use borrow.Author.Needs.{needs}
-use Rattle.moveline.proofs.writer.push_pair.Statement.{statement}
-use Rattle.moveline.proofs.writer.push_pair.Tie as tie
-use Rattle.moveline.proofs.writer.push_pair.Reads as reads
-use Rattle.moveline.proofs.writer.push_pair.Lts as lts
+use Rattle.moveline.proofs.pairs.push_pair.Statement.{statement}
+use Rattle.moveline.proofs.pairs.push_pair.Tie as tie
+use Rattle.moveline.proofs.pairs.push_pair.Reads as reads
+use Rattle.moveline.proofs.pairs.push_pair.Lts as lts
 use Rattle.hex.proofs.frames.push_signed.Reads as push-signed-reads
 
 one : (c : lts.After-push-signed (push-signed-reads.Asked, push-signed-reads.Learnt) reads.Pre reads.Post) → Grown (c .before .before .args .f) (bytes2 (twos (c .before .before .args .p .x))) (c .push-signed .result)
