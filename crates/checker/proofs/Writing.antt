@@ -1,34 +1,42 @@
 -- What is written of an answer and of a move, by the outcome of the tests: room for the line, and a move that is not refused.
 use mathlib.Core.Path.{_≡_, sym, ap, subst, _∙_}
-use mathlib.Core.Logic.{_≢_}
 use mathlib.Core.Bool.{true, false}
 use mathlib.Core.List.{List}
 use Prim.Native.Nat.{ℕ, _≤_, _<_}
 use native.Mathlib.Omega.{arith}
 use lib.IntN.{ℤ}
 use lib.ListN.{length}
-use borrow.Author.Tests.{lt-ltb, le-ltb, eq-eqb, ne-eqb}
+use borrow.Author.Tests.{lt-ltb, le-ltb}
 use Rattle.whole.specs.Padded.{over}
 use Rattle.plane.specs.declared.Corner.{Corner}
 use Rattle.outline.proofs.Ranges.{counted-yes}
-use Rattle.moves.specs.Move.{moveOfLists}
+use Rattle.outline.proofs.Reasons.{none-yes}
+use Rattle.moves.specs.Move.{Move, moveOfLists}
 use Rattle.moves.specs.HeldMove.{Fit, moveHeld, heldMove}
-use Rattle.moves.specs.Refusal.{refusalOfLists, carried}
+use Rattle.moves.specs.Refusal.{refusalOfLists}
 use Rattle.outline.specs.Refusal.{isNone}
+use Rattle.outline.specs.declared.Refusal.{Refusal}
 use Rattle.outline.specs.declared.Refusal.the-variants.{None, Plain}
-use Rattle.moves.proofs.Carrying.{carried-zero, carried-some}
+use Rattle.moves.proofs.Carrying.{carried-zero}
 use Rattle.moves.specs.Reading.{readingOfLists}
 use Rattle.verdict.specs.declared.Answer.{Answer}
 use Rattle.moves.specs.declared.Reading.{Reading}
 use Rattle.moves.proofs.Accepted.{accepted-yes}
 use Rattle.moves.proofs.Listed.{held-accepted, reading-none, reading-refusal, lists-accepted}
-use Rattle.moveline.specs.MoveFrame.{moveFrame, moveLine}
+use Rattle.moveline.specs.MoveFrame.{moveFrame}
+use Rattle.rectangle.specs.Rectangle as second
+use Rattle.rectangle.specs.Refusal.{Fits}
+use Rattle.rectangle.specs.Refusal as rectangle
+use Rattle.rectangle.specs.Reading as rectangles
+use Rattle.rectangle.specs.declared.RectangleMove.{RectangleMove}
+use Rattle.rectangle.specs.declared.RectangleReading.{RectangleReading}
+use Rattle.rectangle.proofs.Refusing as rectangle-laws
 use Rattle.frame.specs.AnswerFrame.{answerLine}
 use Rattle.frame.specs.Said.{wrote, refusalIn}
 use Rattle.moveline.proofs.FrameMove.{moveFrame-length}
 use Rattle.log.specs.Steps.{keptAfter, lostAt}
 use Rattle.log.specs.declared.Kept.{Kept}
-use Rattle.checker.specs.Entries.{spoken, spokenOut, writtenMove, writtenMoveOut, keptIn, lostIn}
+use Rattle.checker.specs.Entries.{spoken, spokenOut, written, writtenOut, keptIn, lostIn}
 
 -- ---- an answer
 module _ (r : Answer) (out : List ℕ) where
@@ -50,45 +58,51 @@ module _ (kept : Kept) (l : List ℕ) (room : ℕ) where
   unfolding keptIn lostIn
   kept-wide h = let t = le-ltb room 45 h in (sym (rw t), sym (rw t))
 
--- ---- a move handed in as lists
+-- ---- a line that may need so many bytes
+module _ (need : ℕ) (why : Refusal) (line out : List ℕ) where
+  pub line-narrow : length out < need → (wrote (Plain 1) 0 ≡ written need why line (length out)) × (out ≡ writtenOut need why line out)
+  unfolding written writtenOut
+  line-narrow h = let t = lt-ltb (length out) need h in (sym (rw t), sym (rw t))
+
+  pub line-refused : need ≤ length out → isNone why ≡ false → (wrote why 0 ≡ written need why line (length out)) × (out ≡ writtenOut need why line out)
+  unfolding written writtenOut
+  line-refused h u = let t = le-ltb (length out) need h in (sym (rw (t, u)), sym (rw (t, u)))
+
+  pub line-written : need ≤ length out → isNone why ≡ true → (wrote None (length line) ≡ written need why line (length out)) × (over line out ≡ writtenOut need why line out)
+  unfolding written writtenOut
+  line-written h u = let t = le-ltb (length out) need h in (sym (rw (t, u)), sym (rw (t, u)))
+
+-- ---- a move handed in as lists, that is not refused
 module _ (xs ys : List ℤ) (va vb : Corner) (T : ℤ) where
-  module _ (out : List ℕ) where
-    pub move-narrow : length out < 283 → (wrote (Plain 1) 0 ≡ writtenMove xs ys va vb T (length out)) × (out ≡ writtenMoveOut xs ys va vb T out)
-    unfolding writtenMove writtenMoveOut
-    move-narrow h = let t = lt-ltb (length out) 283 h in (sym (rw t), sym (rw t))
+  abbrev m : Move
+  m = moveOfLists xs ys va vb T
 
-    pub move-refused : 283 ≤ length out → refusalOfLists xs ys va vb T ≢ 0 →
-        (wrote (carried (refusalOfLists xs ys va vb T) (moveOfLists xs ys va vb T)) 0 ≡ writtenMove xs ys va vb T (length out)) × (out ≡ writtenMoveOut xs ys va vb T out)
-    unfolding writtenMove writtenMoveOut
-    move-refused h n = let t = le-ltb (length out) 283 h in let u = ne-eqb (refusalOfLists xs ys va vb T) 0 n in (sym (rw (t, u)), sym (rw (t, u)))
+  module _ (r : Reading) (is : r ≡ readingOfLists xs ys va vb T) (none : isNone (r .refusal) ≡ true) where
+    lists-none : refusalOfLists xs ys va vb T ≡ 0
+    lists-none = carried-zero m (refusalOfLists xs ys va vb T) (ap isNone (sym (ap (λ x. x .refusal) is ∙ reading-refusal (refusalOfLists xs ys va vb T) m)) ∙ none)
 
-    pub move-written : 283 ≤ length out → refusalOfLists xs ys va vb T ≡ 0 →
-        (wrote None (length (moveLine (moveOfLists xs ys va vb T))) ≡ writtenMove xs ys va vb T (length out)) × (over (moveLine (moveOfLists xs ys va vb T)) out ≡ writtenMoveOut xs ys va vb T out)
-    unfolding writtenMove writtenMoveOut
-    move-written h e = let t = le-ltb (length out) 283 h in let u = eq-eqb (refusalOfLists xs ys va vb T) 0 e in (sym (rw (t, u)), sym (rw (t, u)))
+    held-is : r .held ≡ heldMove m
+    held-is = ap (λ x. x .held) (is ∙ reading-none _ m lists-none)
 
-  module _ (r : Reading) (is : r ≡ readingOfLists xs ys va vb T) where
-    pub read-refusal : r .refusal ≡ carried (refusalOfLists xs ys va vb T) (moveOfLists xs ys va vb T)
-    read-refusal = ap (λ x. x .refusal) is ∙ reading-refusal (refusalOfLists xs ys va vb T) (moveOfLists xs ys va vb T)
+    pub read-fit : Fit (r .held)
+    read-fit = subst Fit (sym held-is) (held-accepted m (lists-accepted xs ys va vb T lists-none) .0)
 
-    pub read-some : isNone (r .refusal) ≡ false → refusalOfLists xs ys va vb T ≢ 0
-    read-some some = carried-some (moveOfLists xs ys va vb T) (refusalOfLists xs ys va vb T) (ap isNone (sym read-refusal) ∙ some)
+    pub read-move : moveHeld (r .held) ≡ m
+    read-move = ap moveHeld held-is ∙ held-accepted m (lists-accepted xs ys va vb T lists-none) .1
 
-    module _ (none : isNone (r .refusal) ≡ true) where
-      pub lists-none : refusalOfLists xs ys va vb T ≡ 0
-      lists-none = carried-zero (moveOfLists xs ys va vb T) (refusalOfLists xs ys va vb T) (ap isNone (sym read-refusal) ∙ none)
+    -- 13 bytes, and 4 for each of at most 32 corners
+    pub read-short : length (moveFrame (moveHeld (r .held))) ≤ 141
+    read-short =
+        let a = accepted-yes m (lists-accepted xs ys va vb T lists-none) in
+        rw read-move (omega (arith, moveFrame-length m, counted-yes _ (a .counted-a), counted-yes _ (a .counted-b)))
 
-      held-is : r .held ≡ heldMove (moveOfLists xs ys va vb T)
-      held-is = ap (λ x. x .held) (is ∙ reading-none _ (moveOfLists xs ys va vb T) lists-none)
+  -- ---- the same of rectangles
+  abbrev n : RectangleMove
+  n = second.moveOfLists xs ys va vb T
 
-      pub read-fit : Fit (r .held)
-      read-fit = subst Fit (sym held-is) (held-accepted (moveOfLists xs ys va vb T) (lists-accepted xs ys va vb T lists-none) .0)
+  module _ (r : RectangleReading) (is : r ≡ rectangles.readingOfLists xs ys va vb T) (none : isNone (r .refusal) ≡ true) where
+    pub rectangles-fit : Fits (r .held)
+    rectangles-fit = subst rectangles.Readable (sym is) (rectangle-laws.reading-readable (rectangle.refusalOfLists xs ys va vb T) n (rectangle-laws.lists-accepted xs ys va vb T)) (none-yes (r .refusal) none)
 
-      pub read-move : moveHeld (r .held) ≡ moveOfLists xs ys va vb T
-      read-move = ap moveHeld held-is ∙ held-accepted (moveOfLists xs ys va vb T) (lists-accepted xs ys va vb T lists-none) .1
-
-      -- 13 bytes, and 4 for each of at most 32 corners
-      pub read-short : length (moveFrame (moveHeld (r .held))) ≤ 141
-      read-short =
-          let a = accepted-yes (moveOfLists xs ys va vb T) (lists-accepted xs ys va vb T lists-none) in
-          rw read-move (omega (arith, moveFrame-length (moveOfLists xs ys va vb T), counted-yes _ (a .counted-a), counted-yes _ (a .counted-b)))
+    pub rectangles-move : r .held ≡ n
+    rectangles-move = ap (λ x. x .held) is ∙ rectangle-laws.reading-held (rectangle.refusalOfLists xs ys va vb T) n (ap (λ x. isNone (x .refusal)) (sym is) ∙ none)

@@ -1,26 +1,31 @@
 -- What the entry points that write a line answer, and every byte of the lent output afterwards.
 --   spoken r room                        for an answer r and so many bytes lent: refusal 1 under 45, else the answer's refusal and its line's length
 --   spokenOut r out                      the lent bytes afterwards: the answer line over the first of them, the others as they were
---   writtenMove .. room                  for a move line: refusal 1 under 283, else the lists' refusal, else the line's length
---   writtenMoveOut .. out                the lent bytes afterwards
+--   written need why line room           for a line that may need so many bytes: refusal 1 under them, else the refusal why, else the line's length
+--   writtenOut need why line out         the lent bytes afterwards: the line over the first of them, or all as they were
 --   keptIn kept l room, lostIn kept l room    of a step along a log: what is kept afterwards, and how many lines were lost; a step refused with 1 keeps and loses nothing
 --   Speaks r w out out′                  a call that returns w and leaves out′ of the lent bytes out has done the former for the answer r
---   WritesMove .. w out out′             it has done the latter
+--   Writes need why line w out out′      it has done the latter; WritesMove .., for the line of a move handed in as lists; WritesRectangles .., for that of rectangles
 --   StepsAlong kept l s out out′         a call that returns s and leaves out′ has taken the step from what is kept with the log line l
 use mathlib.Core.Path.{_≡_}
 use mathlib.Core.Bool.{cond}
 use mathlib.Core.List.{List}
 use Prim.Native.Nat.{ℕ}
-use lib.Dec.{ltb, eqb}
+use lib.Dec.{ltb}
 use lib.IntN.{ℤ}
 use lib.ListN.{length}
 use Rattle.whole.specs.Padded.{over}
 use Rattle.plane.specs.declared.Corner.{Corner}
 use Rattle.moves.specs.Move.{moveOfLists}
-use Rattle.moves.specs.Refusal.{refusalOfLists, carried}
+use Rattle.moves.specs.Reading.{readingOfLists}
+use Rattle.outline.specs.Refusal.{isNone}
+use Rattle.outline.specs.declared.Refusal.{Refusal}
 use Rattle.outline.specs.declared.Refusal.the-variants.{None, Plain}
 use Rattle.verdict.specs.declared.Answer.{Answer}
+use Rattle.rectangle.specs.Rectangle as second
+use Rattle.rectangle.specs.Reading as rectangles
 use Rattle.moveline.specs.MoveFrame.{moveLine}
+use Rattle.rectangleline.specs.RectangleFrame.{rectangleLine}
 use Rattle.frame.specs.AnswerFrame.{answerLine}
 use Rattle.frame.specs.Said.{wrote, refusalIn}
 use Rattle.frame.specs.declared.Written.{Written}
@@ -34,19 +39,23 @@ spoken r room = cond (ltb room 45) (wrote (Plain 1) 0) (wrote (refusalIn r) (len
 unfoldable pub spokenOut : Answer → List ℕ → List ℕ
 spokenOut r out = cond (ltb (length out) 45) out (over (answerLine r) out)
 
-unfoldable pub writtenMove : List ℤ → List ℤ → Corner → Corner → ℤ → ℕ → Written
-writtenMove xs ys va vb T room =
-    cond (ltb room 283) (wrote (Plain 1) 0)
-    (cond (eqb (refusalOfLists xs ys va vb T) 0) (wrote None (length (moveLine (moveOfLists xs ys va vb T)))) (wrote (carried (refusalOfLists xs ys va vb T) (moveOfLists xs ys va vb T)) 0))
+unfoldable pub written : ℕ → Refusal → List ℕ → ℕ → Written
+written need why line room = cond (ltb room need) (wrote (Plain 1) 0) (cond (isNone why) (wrote None (length line)) (wrote why 0))
 
-unfoldable pub writtenMoveOut : List ℤ → List ℤ → Corner → Corner → ℤ → List ℕ → List ℕ
-writtenMoveOut xs ys va vb T out = cond (ltb (length out) 283) out (cond (eqb (refusalOfLists xs ys va vb T) 0) (over (moveLine (moveOfLists xs ys va vb T)) out) out)
+unfoldable pub writtenOut : ℕ → Refusal → List ℕ → List ℕ → List ℕ
+writtenOut need why line out = cond (ltb (length out) need) out (cond (isNone why) (over line out) out)
 
 abbrev pub Speaks : Answer → Written → List ℕ → List ℕ → Type 0
 Speaks r w out out′ = (w ≡ spoken r (length out)) × (out′ ≡ spokenOut r out)
 
+abbrev pub Writes : ℕ → Refusal → List ℕ → Written → List ℕ → List ℕ → Type 0
+Writes need why line w out out′ = (w ≡ written need why line (length out)) × (out′ ≡ writtenOut need why line out)
+
 abbrev pub WritesMove : List ℤ → List ℤ → Corner → Corner → ℤ → Written → List ℕ → List ℕ → Type 0
-WritesMove xs ys va vb T w out out′ = (w ≡ writtenMove xs ys va vb T (length out)) × (out′ ≡ writtenMoveOut xs ys va vb T out)
+WritesMove xs ys va vb T = Writes 283 (readingOfLists xs ys va vb T .refusal) (moveLine (moveOfLists xs ys va vb T))
+
+abbrev pub WritesRectangles : List ℤ → List ℤ → Corner → Corner → ℤ → Written → List ℕ → List ℕ → Type 0
+WritesRectangles xs ys va vb T = Writes 55 (rectangles.readingOfLists xs ys va vb T .refusal) (rectangleLine (second.moveOfLists xs ys va vb T))
 
 unfoldable pub keptIn : Kept → List ℕ → ℕ → Kept
 keptIn kept l room = cond (ltb room 45) kept (keptAfter kept l)

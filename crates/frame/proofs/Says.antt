@@ -41,9 +41,18 @@ use Rattle.verdict.proofs.SideSpans.{spans-length}
 use Rattle.verdict.proofs.FitSpans.{sideCount-is, spans-some, spans-made}
 use Rattle.showing.proofs.ShowingLaws.{moved-length}
 use Rattle.moveline.specs.Reading.{refusalOfLine, moveOfLine}
-use Rattle.frame.specs.AnswerOfLine.{answerOfLine}
+use Rattle.frame.specs.AnswerOfLine.{isSecond, answerOfLine}
 use Rattle.frame.specs.Sayable.{Sayable, SayableBearing, SayableShowing}
 use Rattle.moveline.proofs.RoundTrip.{accepted}
+use Rattle.rectangle.specs.Rectangle.{fourCorners}
+use Rattle.rectangle.specs.Rectangle as second-moves
+use Rattle.rectangle.specs.Refusal as rectangles
+use Rattle.rectangle.specs.Reading as second
+use Rattle.rectangle.specs.declared.RectangleMove.{RectangleMove}
+use Rattle.rectangle.proofs.Refusing as rectangle-laws
+use Rattle.rectangle.proofs.FourAccepted.{four-accepted}
+use Rattle.rectangleline.specs.Reading as lines
+use Rattle.rectangleline.proofs.RoundTrip as round-trip
 
 -- ---- the showing
 inside-few : (A B : List Corner) → length A ≤ 16 → cornerInside A B < 256
@@ -110,10 +119,17 @@ sayable-unless : (r : ℕ) (m : Move) → (r ≡ 0 → refusal m ≡ 0) → Saya
 unfolding answerUnless
 sayable-unless r m ok = cond-by Sayable (eqb r 0) _ _ (λ e. sayable-accepted m (ok (eqb-true r 0 e))) (λ e. tt)
 
+sayable-rectangles : (r : ℕ) (m : RectangleMove) → (r ≡ 0 → rectangles.refusal m ≡ 0) → Sayable (second.answerUnless r m)
+unfolding second.answerUnless
+sayable-rectangles r m ok = cond-by Sayable (eqb r 0) _ _ (λ e. sayable-accepted (fourCorners m) (four-accepted m (ok (eqb-true r 0 e)))) (λ e. tt)
+
 pub sayable-line : (l : List ℕ) → Sayable (answerOfLine l)
 unfolding answerOfLine
-sayable-line l = sayable-unless (refusalOfLine l) (moveOfLine l) (accepted l)
+sayable-line l = cond-by Sayable (isSecond l) _ _ (λ e. sayable-rectangles (lines.refusalOfLine l) (lines.moveOfLine l) (round-trip.accepted l)) (λ e. sayable-unless (refusalOfLine l) (moveOfLine l) (accepted l))
 
 pub sayable-lists : (xs ys : List ℤ) (va vb : Corner) (T : ℤ) → Sayable (answerOfLists xs ys va vb T)
 unfolding answerOfLists
 sayable-lists xs ys va vb T = sayable-unless (refusalOfLists xs ys va vb T) (moveOfLists xs ys va vb T) (lists-accepted xs ys va vb T)
+
+pub sayable-rectangle-lists : (xs ys : List ℤ) (va vb : Corner) (T : ℤ) → Sayable (second.answerOfLists xs ys va vb T)
+sayable-rectangle-lists xs ys va vb T = sayable-rectangles (rectangles.refusalOfLists xs ys va vb T) (second-moves.moveOfLists xs ys va vb T) (rectangle-laws.lists-accepted xs ys va vb T)

@@ -18,7 +18,12 @@ use Rattle.hex.specs.Hex.{hex}
 use Rattle.moveline.specs.MoveFrame.{moveFrame}
 use Rattle.frame.specs.AnswerFrame.{answerFrame, answerLine}
 use Rattle.moveline.specs.Reading.{refusalOfLine, moveOfLine}
-use Rattle.frame.specs.AnswerOfLine.{answerOfLine}
+use Rattle.frame.specs.AnswerOfLine.{isSecond, answerOfOutlines, answerOfRectangles, answerOfLine}
+use Rattle.whole.proofs.Flags.{cond-by}
+use Rattle.rectangle.specs.Refusal as rectangle
+use Rattle.rectangle.specs.Reading as rectangles
+use Rattle.rectangleline.specs.Reading as second
+use Rattle.rectangleline.proofs.RoundTrip as second-laws
 use Rattle.hex.proofs.HexText.{hex-length}
 use Rattle.moveline.proofs.FrameMove.{moveFrame-length}
 use Rattle.moveline.proofs.RoundTrip.{written-read}
@@ -33,44 +38,71 @@ and-never true true = refl
 and-never true false = refl
 and-never false t = refl
 
-pub long-refused : (l : List ℕ) → 282 < length l → answerOfLine l ≡ Refused (Plain 2)
-unfolding answerOfLine refusalOfLine firstThatApplies answerUnless carried carriedBy
+pub long-refused : (l : List ℕ) → 282 < length l → answerOfOutlines l ≡ Refused (Plain 2)
+unfolding refusalOfLine firstThatApplies answerUnless carried carriedBy
 long-refused l h = simp (lt-leb (length l) 282 h, and-never)
 
+long-second : (l : List ℕ) → 282 < length l → answerOfRectangles l ≡ Refused (Plain 2)
+unfolding second.refusalOfLine firstThatApplies rectangles.answerUnless rectangle.carried
+long-second l h = simp (lt-leb (length l) 282 h, and-never)
+
+long-answer : (l : List ℕ) → 282 < length l → answerOfLine l ≡ Refused (Plain 2)
+unfolding answerOfLine
+long-answer l h = cond-by (λ r. r ≡ Refused (Plain 2)) (isSecond l) _ _ (λ e. long-second l h) (λ e. long-refused l h)
+
 long-alike : (l m : List ℕ) → 289 ≤ length l → 289 ≤ length m → answerTo l ≡ answerTo m
-long-alike l m h k = ap answerLine (long-refused l (omega arith) ∙ sym (long-refused m (omega arith)))
+long-alike l m h k = ap answerLine (long-answer l (omega arith) ∙ sym (long-answer m (omega arith)))
 
 -- ---- how long an answer is
 answer-length : (r : Answer) → length (answerLine r) ≡ 2 * length (answerFrame r) + 1
 unfolding answerLine
 answer-length r = length-append (hex (answerFrame r)) (10 ∷ []) ∙ ap (λ n. n + 1) (hex-length (answerFrame r))
 
+pub length-line : (r : Answer) → length (answerLine r) ≤ 45
+length-line r = omega (arith, answer-length r, length-answer r)
+
 refused-length : (r : Refusal) → length (answerLine (Refused r)) ≤ 9
 unfolding answerFrame flatMap
 refused-length r = omega (arith, answer-length (Refused r), two-values r)
 
-refused-answer : (l : List ℕ) → ¬ (refusalOfLine l ≡ 0) → answerOfLine l ≡ Refused (carried (refusalOfLine l) (moveOfLine l))
-unfolding answerOfLine answerUnless
+refused-answer : (l : List ℕ) → ¬ (refusalOfLine l ≡ 0) → answerOfOutlines l ≡ Refused (carried (refusalOfLine l) (moveOfLine l))
+unfolding answerUnless
 refused-answer l n = rw (ne-eqb (refusalOfLine l) 0 n)
+
+refused-second : (l : List ℕ) → ¬ (second.refusalOfLine l ≡ 0) → answerOfRectangles l ≡ Refused (rectangle.carried (second.refusalOfLine l))
+unfolding rectangles.answerUnless
+refused-second l n = rw (ne-eqb (second.refusalOfLine l) 0 n)
 
 -- where the answer to an empty line is seven bytes long, a refusal has room: any other line has a byte
 pub refused-room : (says : List ℕ → Answer) → length (answerLine (says [])) ≡ 7 → (l : List ℕ) {r : Refusal} → says l ≡ Refused r → length (answerLine (says l)) ≤ 7 * (length l + 1)
 refused-room says seven [] e = omega (arith, seven)
 refused-room says seven (c ∷ l) {r} e = omega (arith, ap (λ x. length (answerLine x)) e, refused-length r)
 
-answer-empty : length (answerTo []) ≡ 7
-unfolding answerOfLine refusalOfLine firstThatApplies answerUnless answerLine answerFrame hex flatMap carried carriedBy
+answer-empty : length (answerLine (answerOfOutlines [])) ≡ 7
+unfolding refusalOfLine firstThatApplies answerUnless answerLine answerFrame hex flatMap carried carriedBy
 answer-empty = refl
 
-pub answer-room : (l : List ℕ) → length (answerTo l) ≤ 7 * (length l + 1)
-answer-room l = go (ℕ-discrete (refusalOfLine l) 0)
-  where
-    go : Dec (refusalOfLine l ≡ 0) → length (answerTo l) ≤ 7 * (length l + 1)
-    go (yes e) = omega (arith, ap length (written-read l e), hex-length (moveFrame (moveOfLine l)), moveFrame-length (moveOfLine l), answer-length (answerOfLine l), length-answer (answerOfLine l))
-    go (no n) = refused-room answerOfLine answer-empty l (refused-answer l n)
+second-empty : length (answerLine (answerOfRectangles [])) ≡ 7
+unfolding second.refusalOfLine firstThatApplies rectangles.answerUnless answerLine answerFrame hex flatMap rectangle.carried
+second-empty = refl
 
-pub length-line : (r : Answer) → length (answerLine r) ≤ 45
-length-line r = omega (arith, answer-length r, length-answer r)
+outlines-room : (l : List ℕ) → length (answerLine (answerOfOutlines l)) ≤ 7 * (length l + 1)
+outlines-room l = go (ℕ-discrete (refusalOfLine l) 0)
+  where
+    go : Dec (refusalOfLine l ≡ 0) → length (answerLine (answerOfOutlines l)) ≤ 7 * (length l + 1)
+    go (yes e) = omega (arith, ap length (written-read l e), hex-length (moveFrame (moveOfLine l)), moveFrame-length (moveOfLine l), length-line (answerOfOutlines l))
+    go (no n) = refused-room answerOfOutlines answer-empty l (refused-answer l n)
+
+rectangles-room : (l : List ℕ) → length (answerLine (answerOfRectangles l)) ≤ 7 * (length l + 1)
+rectangles-room l = go (ℕ-discrete (second.refusalOfLine l) 0)
+  where
+    go : Dec (second.refusalOfLine l ≡ 0) → length (answerLine (answerOfRectangles l)) ≤ 7 * (length l + 1)
+    go (yes e) = omega (arith, second-laws.line-length l e, length-line (answerOfRectangles l))
+    go (no n) = refused-room answerOfRectangles second-empty l (refused-second l n)
+
+pub answer-room : (l : List ℕ) → length (answerTo l) ≤ 7 * (length l + 1)
+unfolding answerOfLine
+answer-room l = cond-by (λ r. length (answerLine r) ≤ 7 * (length l + 1)) (isSecond l) _ _ (λ e. rectangles-room l) (λ e. outlines-room l)
 
 -- ---- so the step is steady
 pub bare-steady : Steady bare

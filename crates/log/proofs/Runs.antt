@@ -12,6 +12,7 @@ use borrow.Author.Tests.{eq-eqb, ne-eqb}
 use Rattle.whole.specs.Along.{after, along}
 use Rattle.verdict.specs.Answer.{answerUnless}
 use Rattle.frame.specs.AnswerOfLine.{answerOfLine}
+use Rattle.frame.proofs.ByKind.{outlines-answer}
 use Rattle.log.specs.LogLine.{numberOf, bareLine}
 use Rattle.log.specs.Order.{lostBefore}
 use Rattle.log.specs.Steps.{refusalAt, answerAt}
@@ -23,8 +24,8 @@ use Rattle.log.proofs.Stepping.{accepted-line, kept-stays, kept-moves, 
 
 -- ---- the answers
 pub answer-bare : (kept : Kept) (l : List ℕ) → refusalAt kept l ≡ 0 → answerAt kept l ≡ answerOfLine (bareLine l)
-unfolding answerAt answerOfLine
-answer-bare kept l e = let own = accepted-line kept l e .0 in ap₂ answerUnless (e ∙ sym (bare-accepted l own)) (bare-move l own)
+unfolding answerAt
+answer-bare kept l e = let own = accepted-line kept l e .0 in ap₂ answerUnless (e ∙ sym (bare-accepted l own)) (bare-move l own) ∙ sym (outlines-answer (bareLine l) (bare-accepted l own))
 
 -- so of any steps that are accepted
 abbrev Bare : List (Kept × List ℕ) → Type 0

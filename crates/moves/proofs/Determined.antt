@@ -2,9 +2,17 @@
 use contract.Lifetimes.{Lfts}
 use Rattle.whole.specs.Determined.{Determined}
 use Rattle.whole.proofs.Determination.{determined}
+use Rattle.moves.proofs.refusals.is_limited.Reads as is-limited
+use Rattle.moves.proofs.refusals.are_near.Reads as are-near
 use Rattle.moves.proofs.refusals.refusal.Reads as refusal
 use Rattle.moves.proofs.lists.refused.Reads as refused
 use Rattle.moves.proofs.lists.read_lists.Reads as read-lists
+
+pub is-limited-determined : (κs : Lfts 0) → Determined (is-limited.Learnt κs) (λ r e. r)
+is-limited-determined κs = determined (λ a r e p. p)
+
+pub are-near-determined : (κs : Lfts 0) → Determined (are-near.Learnt κs) (λ r e. r)
+are-near-determined κs = determined (λ a r e p. p)
 
 pub refusal-determined : (κs : Lfts 0) → Determined (refusal.Learnt κs) (λ r e. r)
 refusal-determined κs = determined (λ a r e p. p)

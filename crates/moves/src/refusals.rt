@@ -12,7 +12,7 @@ use outline::Refusal;
 use plane::Corner;
 
 // Whether the limit is from 0 to 10,000.
-fn is_limited(limit: i64) -> bool
+pub fn is_limited(limit: i64) -> bool
     ensures { λ r. ⌜ r ≡ limited limit ⌝ }
 {
     if limit < 0 {
@@ -22,7 +22,7 @@ fn is_limited(limit: i64) -> bool
 }
 
 // Whether both velocities are in range.
-fn are_near(p: Corner, q: Corner) -> bool
+pub fn are_near(p: Corner, q: Corner) -> bool
     ensures { λ r. ⌜ r ≡ (bothInRange p && bothInRange q) ⌝ }
 {
     if !outline::is_near(p) {

@@ -8,8 +8,7 @@ use Prim.Native.Nat.{ℕ, _*_, _<_}
 use native.Mathlib.Decide.{ℕ-discrete}
 use native.Mathlib.Omega.{arith}
 use lib.IntN.{natAbs}
-use lib.ListN.{length}
-use borrow.Author.Tests.{ltb-false, le-ltb}
+use borrow.Author.Tests.{ltb-false}
 use Rattle.whole.specs.Time.{time, before, Proper, lowestTerms, Reduced}
 use Rattle.whole.specs.declared.Time.{Time}
 use Rattle.whole.proofs.Fractions.{before-irrefl, reduced-same, reduced-reduced, reduced-bound, lowestTerms-before, before-lowestTerms}
@@ -22,24 +21,17 @@ use Rattle.verdict.specs.Sides.{sideCount}
 use Rattle.verdict.specs.Span.{span, spans}
 use Rattle.showing.specs.Showing.{showing}
 use Rattle.verdict.specs.Answer.{showingNumbers}
-use Rattle.span.specs.Outcome.{begin, end, spanAt, firstOf, lastOf, firstPlace, lastPlace}
+use Rattle.span.specs.Outcome.{begin, firstOf, lastOf, firstPlace}
 use Rattle.promise.specs.Promise.{InTime, MeetAt, ShownBy, PromiseIn}
-use Rattle.span.specs.declared.Span.{Span}
-use Rattle.span.specs.declared.Span.the-variants.{Empty, Between}
-use Rattle.span.proofs.Windows.{Good}
 use Rattle.verdict.proofs.SideSpans.{spans-length, spans-at, spans-good}
-use Rattle.span.proofs.Firsts.{AllFull, first-proper, last-proper, firstPlace-at, lastPlace-at, in-all}
+use Rattle.span.proofs.Outcomes.{first-limited, last-limited}
+use Rattle.span.proofs.Firsts.{AllFull, first-proper, last-proper, firstPlace-at, in-all}
 use Rattle.promise.proofs.ByCase.{contact-kept}
 use Rattle.promise.proofs.Meeting.{meet-spans}
 use Rattle.promise.proofs.Touching.{touch-corner}
 use Rattle.promise.proofs.Showed.{showing-shown}
 
--- ---- the begin and the end of a span are no later than the limit
-good-limited : (T : ℕ) (s : Span) → Good T s → (before (time T 1) (begin s) ≡ false) × (before (time T 1) (end s) ≡ false)
-unfolding before
-good-limited T Empty g = let e = le-ltb (T * 1) (0 * 1) (omega arith) in (e, e)
-good-limited T (Between b e) g = (g .begin-limited, g .end-limited)
-
+-- ---- a time that is no later than the limit
 in-time : (m : Move) (t : Time) → Proper t → before (time (natAbs (m .limit)) 1) t ≡ false → InTime m (t .n) (t .d)
 unfolding before
 in-time m t p e = (p, omega (arith, ltb-false (natAbs (m .limit) * t .d) (t .n * 1) e))
@@ -58,20 +50,11 @@ module _ (m : Move) (wa : Wide (m .a)) (wb : Wide (m .b)) (a : AllFull (spans m)
   last-reduced : Reduced last
   last-reduced = reduced-reduced _ _ (last-proper (spans m) a)
 
-  ends-limited : (k : ℕ) → k < length (spans m) →
-      let s = spanAt (spans m) k in
-      (before (time (natAbs (m .limit)) 1) (begin s) ≡ false) × (before (time (natAbs (m .limit)) 1) (end s) ≡ false)
-  ends-limited k h = good-limited (natAbs (m .limit)) (spanAt (spans m) k) (spans-good m (wa .some) (wb .some) k h)
-
   first-in-time : InTime m (first .n) (first .d)
-  first-in-time =
-      let s = firstPlace-at (spans m) a in
-      in-time m first (first-reduced .proper) (before-lowestTerms (firstOf (spans m)) (first-proper (spans m) a) _ ∙ ap (before _) (s .1) ∙ ends-limited (firstPlace (spans m)) (s .0) .0)
+  first-in-time = in-time m first (first-reduced .proper) (before-lowestTerms (firstOf (spans m)) (first-proper (spans m) a) _ ∙ first-limited (natAbs (m .limit)) (spans m) (spans-good m (wa .some) (wb .some)) a)
 
   last-in-time : InTime m (last .n) (last .d)
-  last-in-time =
-      let s = lastPlace-at (spans m) a in
-      in-time m last (last-reduced .proper) (before-lowestTerms (lastOf (spans m)) (last-proper (spans m) a) _ ∙ ap (before _) (s .1) ∙ ends-limited (lastPlace (spans m)) (s .0) .1)
+  last-in-time = in-time m last (last-reduced .proper) (before-lowestTerms (lastOf (spans m)) (last-proper (spans m) a) _ ∙ last-limited (natAbs (m .limit)) (spans m) (spans-good m (wa .some) (wb .some)) a)
 
   -- the outlines meet at the times from first to last, and at no other
   meet-from-to : (n d : ℕ) → InTime m n d → MeetAt m n d ↔ ((before (time n d) first ≡ false) × (before last (time n d) ≡ false))

@@ -7,6 +7,7 @@ pub mod Showed
 pub mod Contacted
 pub mod Promised
 pub mod PromisedLine
+pub mod PromisedRectangles
 pub mod WrittenLine
 pub mod Sharing
 pub mod Bearing

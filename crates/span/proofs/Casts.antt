@@ -9,7 +9,7 @@ use mir.Syntax.{w64}
 use mir.Val.{SFits, Fits, toZ, ofZ}
 use mir.Facts.{toZ-ofZ}
 use Rattle.whole.specs.Within.{Within}
-use Rattle.whole.proofs.Bound.{abs-parts}
+use Rattle.whole.proofs.Bound.{abs-parts, bounds, fits}
 use Rattle.whole.proofs.Linear.{ints}
 use Rattle.span.specs.Lead.{Limited}
 
@@ -19,6 +19,13 @@ module _ (z : ℤ) (f : SFits w64 z) (h : pos 0 ≤ℤ z) (k : Within 1500000000
 
 pub limit-within : (z : ℤ) → Limited z → Within 10000 z
 limit-within z h = omega ints
+
+-- it is read back from the machine's number
+pub limit-read : (z : ℤ) → Limited z → toZ w64 (ofZ w64 z) ≡ z
+limit-read z h =
+    let t = limit-within z h in
+    let f : SFits w64 z = fits (search bounds depth 4) tt in
+    toZ-ofZ f
 
 pub limit-cast : (z : ℤ) → SFits w64 z → Limited z → T (nonNeg (toZ w64 (ofZ w64 z))) × Fits w64 (natAbs (toZ w64 (ofZ w64 z)))
 limit-cast z f h = cast-fits z f (h .0) (record { le = omega (arith, limit-within z h .le) })

@@ -91,8 +91,8 @@ module _ {f : Span → Time} {better : Time → Time → Bool} {l : List Span} w
         let b = top-foremost .1 in
         lowest-is (λ k. same (f (spanAt l k)) top) (length l) (top-foremost .0) (b .below) (subst (λ s. same s top ≡ true) (b .is) (same-refl top)) (λ j h. same-false (f (spanAt l j)) top (r .apart (f (spanAt l j)) top (b .beats j h)))
 
-    top-place-at : (top-place < length l) × (top ≡ f (spanAt l top-place))
-    top-place-at = rw top-place-is (top-foremost .1 .below, top-foremost .1 .is)
+    top-place-foremost : Foremost f better l top top-place
+    top-place-foremost = rw top-place-is (top-foremost .1)
 
     top-proper : Proper top
     top-proper = subst Proper (sym (top-foremost .1 .is)) (r .proper (top-foremost .0) (top-foremost .1 .below))
@@ -110,11 +110,11 @@ module _ {f : Span → Time} {better : Time → Time → Bool} {l : List Span} w
         (λ h. subst (λ s. better s t ≡ false) (sym (b .is)) (h (top-foremost .0) (b .below)), λ e k h. r .ranks .step t top (f (spanAt l k)) p top-proper (r .proper k h) e (b .bound k h))
 
 -- ---- begins and ends
-begin-proper : (s : Span) → Full s → Proper (begin s)
+pub begin-proper : (s : Span) → Full s → Proper (begin s)
 begin-proper Empty h = absurd h
 begin-proper (Between b e) h = h .0
 
-end-proper : (s : Span) → Full s → Proper (end s)
+pub end-proper : (s : Span) → Full s → Proper (end s)
 end-proper Empty h = absurd h
 end-proper (Between b e) h = h .1
 
@@ -135,11 +135,17 @@ module _ (l : List Span) (a : AllFull l) where
   unfolding before
   ends = record { ranks = ranks-before; apart = λ s t h e. omega (arith, ltb-true); none = refl; some = a .some; proper = λ k h. end-proper (spanAt l k) (a .full k h) }
 
+  pub first-foremost : Foremost begin after l (firstOf l) (firstPlace l)
+  first-foremost = top-place-foremost begins
+
+  pub last-foremost : Foremost end before l (lastOf l) (lastPlace l)
+  last-foremost = top-place-foremost ends
+
   pub firstPlace-at : (firstPlace l < length l) × (firstOf l ≡ begin (spanAt l (firstPlace l)))
-  firstPlace-at = top-place-at begins
+  firstPlace-at = (first-foremost .below, first-foremost .is)
 
   pub lastPlace-at : (lastPlace l < length l) × (lastOf l ≡ end (spanAt l (lastPlace l)))
-  lastPlace-at = top-place-at ends
+  lastPlace-at = (last-foremost .below, last-foremost .is)
 
   pub first-proper : Proper (firstOf l)
   first-proper = top-proper begins

@@ -1,25 +1,27 @@
--- The outcome of a list of spans by its cases: a span is empty, or all are full and the greatest begin exceeds the least end, or it does not.
-use mathlib.Core.Path.{_≡_, refl, sym, ap, subst}
+-- The outcome of a list of spans by its cases: a span is empty, or all are full and the greatest begin exceeds the least end, or it does not, and then the greatest begin is in each span.
+use mathlib.Core.Path.{_≡_, refl, sym, _∙_, ap, subst}
 use mathlib.Core.Bool.{true, false, false≢true}
 use mathlib.Core.List.{List}
-use Prim.Native.Nat.{ℕ, _≤_, _<_}
+use Prim.Native.Nat.{ℕ, _*_, _≤_, _<_}
 use native.Mathlib.Omega.{arith}
 use lib.Dec.{ltb}
 use lib.ListN.{length}
-use borrow.Author.Tests.{ltb-true, ltb-false}
-use Rattle.whole.specs.Time.{before, lowestTerms, Proper, Short}
+use borrow.Author.Tests.{ltb-true, ltb-false, le-ltb}
+use Rattle.whole.specs.Time.{time, before, lowestTerms, Proper, Short}
 use Rattle.whole.specs.declared.Time.{Time}
 use Rattle.whole.proofs.Flags.{cond-by}
-use Rattle.whole.proofs.Fractions.{reduced-reduced, reduced-short}
+use Rattle.whole.proofs.Fractions.{before-irrefl, reduced-reduced, reduced-short, lowestTerms-before, before-lowestTerms}
 use Rattle.whole.proofs.Indices.{lowest-yes, lowest-below, lowest-is, lowest-none}
-use Rattle.span.specs.Outcome.{isEmpty, spanAt, emptyPlace, firstOf, lastOf, firstPlace, lastPlace, lead, outcome}
+use Rattle.span.specs.InSpan.{InSpan}
+use Rattle.span.specs.Outcome.{isEmpty, begin, end, spanAt, emptyPlace, firstOf, lastOf, firstPlace, lastPlace, lead, outcome}
 use Rattle.span.specs.Lead.{Comparable}
+use Rattle.span.specs.declared.Lead.{Lead}
 use Rattle.span.specs.declared.Span.{Span}
 use Rattle.span.specs.declared.Span.the-variants.{Empty, Between}
 use Rattle.span.specs.declared.Outcome.{Outcome}
 use Rattle.span.specs.declared.Outcome.the-variants.{ByOne, ByTwo, FromTo}
 use Rattle.span.proofs.Windows.{Good, ShortSpan, short-begin, short-end}
-use Rattle.span.proofs.Firsts.{Full, AllFull, firstPlace-at, lastPlace-at, first-proper, last-proper}
+use Rattle.span.proofs.Firsts.{Full, AllFull, firstPlace-at, lastPlace-at, first-proper, last-proper, in-all}
 
 empty-is : (s : Span) → isEmpty s ≡ true → s ≡ Empty
 empty-is Empty e = refl
@@ -75,3 +77,41 @@ outcome-timed T l some m =
       lowestTerms-comparable (firstOf l) (first-proper l a) (subst Short (sym (f .1)) (short-begin (spanAt l (firstPlace l)) (m .short (firstPlace l) (f .0)))),
       lowestTerms-comparable (lastOf l) (last-proper l a) (subst Short (sym (g .1)) (short-end (spanAt l (lastPlace l)) (m .short (lastPlace l) (g .0)))),
     ))
+
+-- ---- the greatest begin and the least end are no later than the limit; where there is a first time, it is in each span
+good-limited : (T : ℕ) (s : Span) → Good T s → (before (time T 1) (begin s) ≡ false) × (before (time T 1) (end s) ≡ false)
+unfolding before
+good-limited T Empty g = let e = le-ltb (T * 1) (0 * 1) (omega arith) in (e, e)
+good-limited T (Between b e) g = (g .begin-limited, g .end-limited)
+
+pub record InEach (T : ℕ) (l : List Span) (t : Time) : Type 0 where
+  pub proper : Proper t
+  pub limited : t .n ≤ T * t .d
+  pub in-each : (k : ℕ) → k < length l → InSpan t (spanAt l k)
+
+module _ (T : ℕ) (l : List Span) (good : (k : ℕ) → k < length l → Good T (spanAt l k)) where
+  pub first-limited : AllFull l → before (time T 1) (firstOf l) ≡ false
+  first-limited a = let s = firstPlace-at l a in ap (before (time T 1)) (s .1) ∙ good-limited T (spanAt l (firstPlace l)) (good (firstPlace l) (s .0)) .0
+
+  pub last-limited : AllFull l → before (time T 1) (lastOf l) ≡ false
+  last-limited a = let s = lastPlace-at l a in ap (before (time T 1)) (s .1) ∙ good-limited T (spanAt l (lastPlace l)) (good (lastPlace l) (s .0)) .1
+
+  abbrev FirstIn : Outcome → Type 0
+  FirstIn (ByOne k) = Unit {0}
+  FirstIn (ByTwo i j) = Unit {0}
+  FirstIn (FromTo first last) = InEach T l (first .at)
+
+  first-in : AllFull l → before (lastOf l) (firstOf l) ≡ false → InEach T l (lowestTerms (firstOf l))
+  unfolding before
+  first-in a e =
+      let t = firstOf l in
+      let p = first-proper l a in
+      let q = reduced-reduced (t .n) (t .d) p .proper in
+      record {
+        proper = q;
+        limited = omega (arith, ltb-false (T * lowestTerms t .d) (lowestTerms t .n * 1) (before-lowestTerms t p (time T 1) ∙ first-limited a));
+        in-each = in-all l a (lowestTerms t) q .1 (lowestTerms-before t p t ∙ before-irrefl t, before-lowestTerms t p (lastOf l) ∙ e);
+      }
+
+  pub outcome-first : 1 ≤ length l → (first last : Lead) → outcome l ≡ FromTo first last → InEach T l (first .at)
+  outcome-first some first last e = subst FirstIn e (outcome-by T l some good FirstIn (λ h q. tt) (λ a q. tt) first-in)

@@ -7,7 +7,7 @@ use Prim.Native.Nat.{ℕ, zero, suc, _*_, _^_, _≤_, _<_, min, max}
 use native.Mathlib.Nat.{mul-le-mul-right, mul-lt-mul-of-pos-right, eq-of-mul-eq-mul-right}
 use native.Mathlib.Omega.{arith}
 use lib.Dec.{ltb}
-use lib.IntN.{ℤ, pos, negsuc, negℤ, natAbs, _*ℤ_, *ℤ-comm}
+use lib.IntN.{ℤ, pos, negsuc, negℤ, natAbs, _+ℤ_, _-ℤ_, _*ℤ_, *ℤ-comm}
 use lib.Signed.{_≤ℤ_, _<ℤ_, ltZ}
 use borrow.Author.Tests.{ltb-true, ltb-false, lt-ltb, le-ltb}
 use Rattle.whole.specs.Time.{time, before, Proper, Short}
@@ -16,7 +16,7 @@ use Rattle.whole.proofs.Flags.{cond-by}
 use Rattle.whole.proofs.Parts.{P, P-neg, N-neg, split, diff}
 use Rattle.whole.proofs.Bound.{abs-neg}
 use Rattle.whole.proofs.Ring.{reps, by-ring}
-use Rattle.whole.proofs.Linear.{ints, lin≡, ≡lin}
+use Rattle.whole.proofs.Linear.{ints, lin≤, ≤lin, lin≡, ≡lin}
 use Rattle.whole.proofs.Order.{mul-≤, mul-<}
 use Rattle.whole.proofs.Fractions.{before-irrefl, before-step}
 use Rattle.span.specs.Window.{beginAhead, endAhead, windowAhead, windowStill, window}
@@ -151,7 +151,7 @@ module _ (lo : ℤ) (q T n d : ℕ) (hq : 1 ≤ q) (hd : 1 ≤ d) (hn : n ≤ T 
 neg-le : (a b : ℤ) → (negℤ b ≤ℤ negℤ a) ↔ (a ≤ℤ b)
 neg-le a b = rw (split a, split b) (simp diff (omega arith))
 
-neg-mul : (a z : ℤ) → a *ℤ negℤ z ≡ negℤ (a *ℤ z)
+pub neg-mul : (a z : ℤ) → a *ℤ negℤ z ≡ negℤ (a *ℤ z)
 neg-mul a z = by-ring (a ∷ z ∷ []) (search reps depth 9) (search reps depth 9) tt
 
 turned : (a z b w : ℤ) → ((a *ℤ negℤ z) ≤ℤ (b *ℤ negℤ w)) ↔ ((b *ℤ w) ≤ℤ (a *ℤ z))
@@ -172,6 +172,26 @@ windowed-is {lo} {hi} {T} (always l h) n d hd hn =
 
 pub window-is : (lo hi w : ℤ) (T n d : ℕ) → 1 ≤ d → n ≤ T * d → InSpan (time n d) (window lo hi w T) ↔ Covers lo hi w n d
 window-is lo hi w T = windowed-is (windowed lo hi w T)
+
+-- ---- intervals from la to ha and from lb to hb that move by va and vb: the window between the gaps of their ends holds the times at which they share a value
+module _ (d n a b v w : ℤ) where
+  gather-low : ((d *ℤ a +ℤ n *ℤ v) ≤ℤ (d *ℤ b +ℤ n *ℤ w)) ↔ ((d *ℤ (a -ℤ b)) ≤ℤ (n *ℤ (w -ℤ v)))
+  gather-low =
+      let ρ = d ∷ n ∷ a ∷ b ∷ v ∷ w ∷ [] in
+      (λ h. ≤lin ρ (search reps depth 12) tt (omega (arith, lin≤ ρ (search reps depth 12) tt h)), λ h. ≤lin ρ (search reps depth 12) tt (omega (arith, lin≤ ρ (search reps depth 12) tt h)))
+
+  gather-high : ((d *ℤ b +ℤ n *ℤ w) ≤ℤ (d *ℤ a +ℤ n *ℤ v)) ↔ ((n *ℤ (w -ℤ v)) ≤ℤ (d *ℤ (a -ℤ b)))
+  gather-high =
+      let ρ = d ∷ n ∷ a ∷ b ∷ v ∷ w ∷ [] in
+      (λ h. ≤lin ρ (search reps depth 12) tt (omega (arith, lin≤ ρ (search reps depth 12) tt h)), λ h. ≤lin ρ (search reps depth 12) tt (omega (arith, lin≤ ρ (search reps depth 12) tt h)))
+
+pub window-shares : (la ha va lb hb vb : ℤ) (T n d : ℕ) → 1 ≤ d → n ≤ T * d → InSpan (time n d) (window (la -ℤ hb) (ha -ℤ lb) (vb -ℤ va) T) ↔
+    (((pos d *ℤ la +ℤ pos n *ℤ va) ≤ℤ (pos d *ℤ hb +ℤ pos n *ℤ vb)) × ((pos d *ℤ lb +ℤ pos n *ℤ vb) ≤ℤ (pos d *ℤ ha +ℤ pos n *ℤ va)))
+window-shares la ha va lb hb vb T n d hd hn =
+    let w = window-is (la -ℤ hb) (ha -ℤ lb) (vb -ℤ va) T n d hd hn in
+    let l = gather-low (pos d) (pos n) la hb va vb in
+    let h = gather-high (pos d) (pos n) ha lb va vb in
+    (λ i. let c = w .0 i in (l .1 (c .0), h .1 (c .1)), λ e. w .1 (l .0 (e .0), h .0 (e .1)))
 
 -- ---- its begin and its end: no later than T, and in order
 pub record Bounds (T : ℕ) (b e : Time) : Type 0 where

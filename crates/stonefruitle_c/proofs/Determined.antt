@@ -10,9 +10,12 @@ use Rattle.whole.specs.Determined.{Determined}
 use Rattle.whole.proofs.Determination.{determined, both, all-three}
 use Rattle.stonefruitle_c.proofs.stonefruitle_answer_line.Reads as answer-line
 use Rattle.stonefruitle_c.proofs.stonefruitle_answer_lists.Reads as answer-lists
+use Rattle.stonefruitle_c.proofs.stonefruitle_answer_rectangles.Reads as answer-rectangles
 use Rattle.stonefruitle_c.proofs.stonefruitle_write_move.Reads as write-move
+use Rattle.stonefruitle_c.proofs.stonefruitle_write_rectangles.Reads as write-rectangles
 use Rattle.stonefruitle_c.proofs.stonefruitle_read_line.Reads as read-line
 use Rattle.stonefruitle_c.proofs.stonefruitle_read_move.Reads as read-move
+use Rattle.stonefruitle_c.proofs.stonefruitle_read_rectangles.Reads as read-rectangles
 use Rattle.stonefruitle_c.proofs.stonefruitle_test_outline.Reads as test-outline
 use Rattle.stonefruitle_c.proofs.stonefruitle_log_step.Reads as log-step
 use Rattle.stonefruitle_c.proofs.stonefruitle_read_log.Reads as read-log
@@ -29,14 +32,23 @@ answer-line-determined κs = determined (λ a r e p. all-four (p .0 .0 .0) (p .1
 pub answer-lists-determined : (κs : Lfts 5) → Determined {Y = ℕ × List ℕ × ℕ × ℕ} (answer-lists.Learnt κs) (λ r e. (r, now (e .1 .1 .1 .1 .1 .1 .1 .0), now (e .1 .1 .1 .1 .1 .1 .1 .1 .0), now (e .1 .1 .1 .1 .1 .1 .1 .1 .1 .0)))
 answer-lists-determined κs = determined (λ a r e p. all-four (p .0 .0 .0) (p .1) (p .0 .1) (p .0 .0 .1))
 
+pub answer-rectangles-determined : (κs : Lfts 5) → Determined {Y = ℕ × List ℕ × ℕ × ℕ} (answer-rectangles.Learnt κs) (λ r e. (r, now (e .1 .1 .1 .1 .1 .1 .1 .0), now (e .1 .1 .1 .1 .1 .1 .1 .1 .0), now (e .1 .1 .1 .1 .1 .1 .1 .1 .1 .0)))
+answer-rectangles-determined κs = determined (λ a r e p. all-four (p .0 .0 .0) (p .1) (p .0 .1) (p .0 .0 .1))
+
 pub write-move-determined : (κs : Lfts 5) → Determined {Y = ℕ × List ℕ × ℕ × ℕ} (write-move.Learnt κs) (λ r e. (r, now (e .1 .1 .1 .1 .1 .1 .1 .0), now (e .1 .1 .1 .1 .1 .1 .1 .1 .0), now (e .1 .1 .1 .1 .1 .1 .1 .1 .1 .0)))
 write-move-determined κs = determined (λ a r e p. all-four (p .0 .0 .0) (p .1) (p .0 .1) (p .0 .0 .1))
 
-pub read-line-determined : (κs : Lfts 2) → Determined {Y = ℕ × ℕ} (read-line.Learnt κs) (λ r e. (r, now (e .1 .0)))
-read-line-determined κs = determined (λ a r e p. both (p .0) (p .1))
+pub write-rectangles-determined : (κs : Lfts 5) → Determined {Y = ℕ × List ℕ × ℕ × ℕ} (write-rectangles.Learnt κs) (λ r e. (r, now (e .1 .1 .1 .1 .1 .1 .1 .0), now (e .1 .1 .1 .1 .1 .1 .1 .1 .0), now (e .1 .1 .1 .1 .1 .1 .1 .1 .1 .0)))
+write-rectangles-determined κs = determined (λ a r e p. all-four (p .0 .0 .0) (p .1) (p .0 .1) (p .0 .0 .1))
+
+pub read-line-determined : (κs : Lfts 3) → Determined {Y = ℕ × ℕ × ℕ} (read-line.Learnt κs) (λ r e. (r, now (e .1 .0), now (e .1 .1 .0)))
+read-line-determined κs = determined (λ a r e p. all-three (p .0 .0) (p .1) (p .0 .1))
 
 pub read-move-determined : (κs : Lfts 3) → Determined {Y = ℕ × List ℤ × ℕ} (read-move.Learnt κs) (λ r e. (r, now (e .1 .0), now (e .1 .1 .0)))
 read-move-determined κs = determined (λ a r e p. all-three (p .0 .0) (p .1) (p .0 .1))
+
+pub read-rectangles-determined : (κs : Lfts 3) → Determined {Y = ℕ × List ℤ × ℕ} (read-rectangles.Learnt κs) (λ r e. (r, now (e .1 .0), now (e .1 .1 .0)))
+read-rectangles-determined κs = determined (λ a r e p. all-three (p .0 .0) (p .1) (p .0 .1))
 
 pub test-outline-determined : (κs : Lfts 2) → Determined {Y = ℕ × ℕ} (test-outline.Learnt κs) (λ r e. (r, now (e .1 .0)))
 test-outline-determined κs = determined (λ a r e p. both (p .0) (p .1))

@@ -1,5 +1,6 @@
--- What is handed out of a refusal is its number and its edge; and the numbers are those of the outline test, of a line and of a log line.
+-- What is handed out of a refusal is its number and its edge; and the numbers are those of the outline test, of a line by its kind and of a log line.
 use mathlib.Core.Path.{_≡_, refl, sym, _∙_, ap}
+use mathlib.Core.Bool.{Bool, true, false, cond}
 use mathlib.Core.List.{List}
 use Prim.Native.Nat.{ℕ}
 use native.Mathlib.Decide.{ℕ-discrete}
@@ -10,13 +11,19 @@ use Rattle.outline.specs.Coordinates.{cornersOf}
 use Rattle.outline.specs.Refusal.{refusalOfOutline, carriedBy, numberIn}
 use Rattle.outline.specs.Tested.{tested}
 use Rattle.outline.specs.declared.Refusal.{Refusal}
+use Rattle.outline.specs.declared.Refusal.the-variants.{None, Plain, AtEdge}
 use Rattle.moves.proofs.Carrying.{carried-number}
 use Rattle.moves.proofs.Listed.{reading-refusal}
 use Rattle.moveline.specs.Reading.{refusalOfLine, moveOfLine, readingOfLine}
+use Rattle.rectangle.proofs.Refusing as rectangle-laws
+use Rattle.rectangleline.specs.Reading as second
+use Rattle.frame.specs.AnswerOfLine.{isSecond, kindUnless, kindOfLine}
 use Rattle.frame.specs.declared.Written.{Written}
+use Rattle.frame.specs.declared.Kind.{Kind}
+use Rattle.frame.specs.declared.Kind.the-variants.{Outlines, Rectangles}
 use Rattle.log.specs.LogLine.{refusalOfLog, moveOf, entryOf}
 use Rattle.log.proofs.Stepping.{entry-refusal}
-use Rattle.stonefruitle_c.specs.Handed.{edgeOr, Hands, HandsOut}
+use Rattle.stonefruitle_c.specs.Handed.{edgeOr, Hands, HandsOut, refusalOfKind}
 
 module _ {r edge : ℕ} (was : ℕ) where
   pub hands : {x y : Refusal} → x ≡ y → r ≡ numberIn x → edge ≡ edgeOr x was → Hands y r was edge
@@ -48,3 +55,17 @@ line-number l = ap numberIn (reading-refusal (refusalOfLine l) (moveOfLine l)) �
 
 pub log-line-number : (l : List ℕ) → numberIn (entryOf l .reading .refusal) ≡ refusalOfLog l
 log-line-number l = ap numberIn (entry-refusal l) ∙ carried-number (moveOf l) (refusalOfLog l)
+
+-- of the kind of a line: that of the reader of its kind
+pub kind-number : (l : List ℕ) → numberIn (refusalOfKind (kindOfLine l)) ≡ cond (isSecond l) (second.refusalOfLine l) (refusalOfLine l)
+unfolding kindOfLine
+kind-number l = go (isSecond l)
+  where
+    unless : (k : Kind) → numberIn (refusalOfKind k) ≡ 0 → (why : Refusal) → numberIn (refusalOfKind (kindUnless why k)) ≡ numberIn why
+    unless k e None = e
+    unless k e (Plain n) = refl
+    unless k e (AtEdge n i) = refl
+
+    go : (t : Bool) → numberIn (refusalOfKind (cond t (kindUnless (second.readingOfLine l .refusal) Rectangles) (kindUnless (readingOfLine l .refusal) Outlines))) ≡ cond t (second.refusalOfLine l) (refusalOfLine l)
+    go true = unless Rectangles refl (second.readingOfLine l .refusal) ∙ rectangle-laws.reading-number (second.refusalOfLine l) (second.moveOfLine l)
+    go false = unless Outlines refl (readingOfLine l .refusal) ∙ line-number l

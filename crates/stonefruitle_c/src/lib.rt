@@ -4,14 +4,16 @@ ghost use mathlib.Core.Path.{_≡_};
 ghost use Rattle.plane.specs.Point.{point};
 ghost use Rattle.outline.specs.Tested.{tested};
 ghost use Rattle.verdict.specs.Answer.{answerOfLists};
-ghost use Rattle.frame.specs.AnswerOfLine.{answerOfLine};
+ghost use Rattle.rectangle.specs.Reading as rectangles;
+ghost use Rattle.rectangleline.specs.Reading as second;
+ghost use Rattle.frame.specs.AnswerOfLine.{answerOfLine, kindOfLine};
 ghost use Rattle.moveline.specs.Reading.{readingOfLine};
 ghost use Rattle.log.specs.LogLine.{entryOf};
-ghost use Rattle.stonefruitle_c.specs.Numbers.{numbers};
+ghost use Rattle.stonefruitle_c.specs.Numbers.{numbers, rectangleNumbers};
 ghost use Rattle.stonefruitle_c.specs.Kept.{keptOf, StepsOut};
-ghost use Rattle.stonefruitle_c.specs.Handed.{Hands, SpeaksOut, WritesOut};
+ghost use Rattle.stonefruitle_c.specs.Handed.{Hands, SpeaksOut, WritesMoveOut, WritesRectanglesOut, refusalOfKind, kindOr};
 
-mod handed; // what is handed out of a refusal
+mod handed; // what is handed out of a refusal and of the kind of a line
 mod kept; // the number that a log keeps
 mod numbers; // a move as a list of numbers
 
@@ -59,6 +61,31 @@ pub extern "C" fn stonefruitle_answer_lists(
     outline::number_of(why)
 }
 
+// The same for a move of rectangles handed in as numbers: low x, low y, high x, high y of each, their velocities and the limit.
+#[no_mangle]
+pub extern "C" fn stonefruitle_answer_rectangles(
+    a: &[i64],
+    b: &[i64],
+    vax: i64,
+    vay: i64,
+    vbx: i64,
+    vby: i64,
+    limit: i64,
+    out: &mut [u8],
+    written: &mut usize,
+    edge: &mut u8,
+) -> u8
+    ensures { λ r. ⌜ SpeaksOut (rectangles.answerOfLists (now (a .entry)) (now (b .entry)) (point vax vay) (point vbx vby) limit) r (now (written .exit)) (now (edge .entry)) (now (edge .exit)) (now (out .entry)) (now (out .exit)) ⌝ }
+{
+    let va = Corner { x: vax, y: vay };
+    let vb = Corner { x: vbx, y: vby };
+    let w = checker::answer_rectangles(a, b, va, vb, limit, out);
+    let why = w.refusal;
+    *written = w.bytes;
+    *edge = handed::edge_or(why, *edge);
+    outline::number_of(why)
+}
+
 // The line of a move handed in as numbers, into `out`, and its length into `written`: 0 where the move is refused.
 #[no_mangle]
 pub extern "C" fn stonefruitle_write_move(
@@ -73,7 +100,7 @@ pub extern "C" fn stonefruitle_write_move(
     written: &mut usize,
     edge: &mut u8,
 ) -> u8
-    ensures { λ r. ⌜ WritesOut (now (a .entry)) (now (b .entry)) (point vax vay) (point vbx vby) limit r (now (written .exit)) (now (edge .entry)) (now (edge .exit)) (now (out .entry)) (now (out .exit)) ⌝ }
+    ensures { λ r. ⌜ WritesMoveOut (now (a .entry)) (now (b .entry)) (point vax vay) (point vbx vby) limit r (now (written .exit)) (now (edge .entry)) (now (edge .exit)) (now (out .entry)) (now (out .exit)) ⌝ }
 {
     let va = Corner { x: vax, y: vay };
     let vb = Corner { x: vbx, y: vby };
@@ -84,26 +111,69 @@ pub extern "C" fn stonefruitle_write_move(
     outline::number_of(why)
 }
 
-// Whether a line, which stands without its 0a, is a move: 2 to 9, the first that applies, or 0.
+// The same for a move of rectangles.
 #[no_mangle]
-pub extern "C" fn stonefruitle_read_line(line: &[u8], edge: &mut u8) -> u8
-    ensures { λ r. ⌜ Hands (readingOfLine (now (line .entry)) .refusal) r (now (edge .entry)) (now (edge .exit)) ⌝ }
+pub extern "C" fn stonefruitle_write_rectangles(
+    a: &[i64],
+    b: &[i64],
+    vax: i64,
+    vay: i64,
+    vbx: i64,
+    vby: i64,
+    limit: i64,
+    out: &mut [u8],
+    written: &mut usize,
+    edge: &mut u8,
+) -> u8
+    ensures { λ r. ⌜ WritesRectanglesOut (now (a .entry)) (now (b .entry)) (point vax vay) (point vbx vby) limit r (now (written .exit)) (now (edge .entry)) (now (edge .exit)) (now (out .entry)) (now (out .exit)) ⌝ }
 {
-    let r = checker::read_line(line);
-    let why = r.refusal;
+    let va = Corner { x: vax, y: vay };
+    let vb = Corner { x: vbx, y: vby };
+    let w = checker::write_rectangles(a, b, va, vb, limit, out);
+    let why = w.refusal;
+    *written = w.bytes;
     *edge = handed::edge_or(why, *edge);
     outline::number_of(why)
 }
 
-// The move of a line, which stands without its 0a, as 71 numbers: the limit, the velocities of A and of B, the counts of A and of B,
+// Whether a line, which stands without its 0a, is a move: 2 to 9, the first that applies, or 0, and then its kind, 1 or 2, in `kind`.
+#[no_mangle]
+pub extern "C" fn stonefruitle_read_line(line: &[u8], kind: &mut u8, edge: &mut u8) -> u8
+    ensures { λ r. ⌜ Hands (refusalOfKind (kindOfLine (now (line .entry)))) r (now (edge .entry)) (now (edge .exit)) × (now (kind .exit) ≡ kindOr (kindOfLine (now (line .entry))) (now (kind .entry))) ⌝ }
+{
+    let k = checker::read_line(line);
+    let why = handed::refusal_of(k);
+    *kind = handed::kind_or(k, *kind);
+    *edge = handed::edge_or(why, *edge);
+    outline::number_of(why)
+}
+
+// The move of a line of kind 01, which stands without its 0a, as 71 numbers: the limit, the velocities of A and of B, the counts of A and of B,
 // sixteen corner places of A, sixteen of B; all zeros where the line is refused.
 #[no_mangle]
 pub extern "C" fn stonefruitle_read_move(line: &[u8], into: &mut [i64; 71], edge: &mut u8) -> u8
     ensures { λ r. ⌜ Hands (readingOfLine (now (line .entry)) .refusal) r (now (edge .entry)) (now (edge .exit)) × (now (into .exit) ≡ numbers (readingOfLine (now (line .entry)) .held)) ⌝ }
 {
-    let r = checker::read_line(line);
+    let r = checker::read_outlines(line);
     let why = r.refusal;
     *into = numbers::numbers_of(r.held);
+    *edge = handed::edge_or(why, *edge);
+    outline::number_of(why)
+}
+
+// The move of a line of kind 02, which stands without its 0a, as 13 numbers: the limit, the velocities of A and of B, low x, low y, high x, high y of A, of B;
+// all zeros where the line is refused.
+#[no_mangle]
+pub extern "C" fn stonefruitle_read_rectangles(
+    line: &[u8],
+    into: &mut [i64; 13],
+    edge: &mut u8,
+) -> u8
+    ensures { λ r. ⌜ Hands (second.readingOfLine (now (line .entry)) .refusal) r (now (edge .entry)) (now (edge .exit)) × (now (into .exit) ≡ rectangleNumbers (second.readingOfLine (now (line .entry)) .held)) ⌝ }
+{
+    let r = checker::read_rectangles(line);
+    let why = r.refusal;
+    *into = numbers::rectangle_numbers(r.held);
     *edge = handed::edge_or(why, *edge);
     outline::number_of(why)
 }

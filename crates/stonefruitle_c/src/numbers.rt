@@ -4,9 +4,10 @@ ghost use Prim.Native.Nat.{_<_};
 ghost use lib.IntN.{pos};
 ghost use lib.ListN.{getD};
 ghost use Rattle.outline.specs.Held.{Kept};
-ghost use Rattle.stonefruitle_c.specs.Numbers.{coordinates, heading, numbers};
+ghost use Rattle.stonefruitle_c.specs.Numbers.{coordinates, heading, numbers, rectangleNumbers};
 use moves::HeldMove;
 use outline::Outline;
+use rectangle::RectangleMove;
 
 // The coordinate at k of an outline's sixteen places.
 fn coordinate(o: Outline, k: usize) -> i64
@@ -75,4 +76,27 @@ pub fn numbers_of(m: HeldMove) -> [i64; 71]
         i += 1;
     }
     all
+}
+
+// The 13 numbers of a move of rectangles.
+pub fn rectangle_numbers(m: RectangleMove) -> [i64; 13]
+    ensures { λ r. ⌜ r ≡ rectangleNumbers m ⌝ }
+{
+    let a = m.a;
+    let b = m.b;
+    [
+        m.limit,
+        m.va.x,
+        m.va.y,
+        m.vb.x,
+        m.vb.y,
+        a.low.x,
+        a.low.y,
+        a.high.x,
+        a.high.y,
+        b.low.x,
+        b.low.y,
+        b.high.x,
+        b.high.y,
+    ]
 }

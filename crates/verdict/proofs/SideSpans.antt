@@ -36,7 +36,7 @@ low-le-high D A h =
     let c = mem-at A 0 origin h in
     omega (ints, low-bound D A (corner A 0) c, high-bound D A (corner A 0) c)
 
-gap-le : (a b c d : ℤ) → a ≤ℤ b → c ≤ℤ d → (a -ℤ d) ≤ℤ (b -ℤ c)
+pub gap-le : (a b c d : ℤ) → a ≤ℤ b → c ≤ℤ d → (a -ℤ d) ≤ℤ (b -ℤ c)
 gap-le a b c d h k =
     let ρ = a ∷ b ∷ c ∷ d ∷ [] in
     ≤lin ρ (search reps depth 12) tt (omega ints)

@@ -1,10 +1,13 @@
 -- A value that code computes, read in one pass: `search vals` finds its expression and a bound on its size together, so a number that went through bits is read as itself where its bound shows that it fits.
+use mathlib.Core.Path.{_≡_, _∙_, ap₂}
 use mathlib.Core.List.{List}
 use Prim.Native.Nat.{ℕ}
-use lib.IntN.{ℤ, pos, negsuc, _+ℤ_, _*ℤ_, negℤ}
-use mir.Syntax.{Width}
-use mir.Val.{toZ, ofZ}
-use Rattle.whole.proofs.Bound.{Bd, b-add, b-mul, b-neg, b-pos, b-negsuc, b-round, b-within, b-hyp}
+use lib.IntN.{ℤ, pos, negsuc, _+ℤ_, _-ℤ_, _*ℤ_, negℤ}
+use mir.Syntax.{Width, w64}
+use mir.Val.{SFits, toZ, ofZ}
+use mir.Facts.{toZ-ofZ}
+use Rattle.whole.specs.Within.{Within}
+use Rattle.whole.proofs.Bound.{Bd, b-add, b-mul, b-neg, b-pos, b-negsuc, b-round, b-within, b-hyp, bounds, fits}
 use Rattle.whole.proofs.Ring.{Rep, r-add, r-mul, r-neg, r-pos, r-negsuc, r-round, atoms}
 
 pub record Val (ρ : List ℤ) (z : ℤ) : Type 0 where
@@ -38,3 +41,14 @@ pub ruleset vals = (v-round, v-add, v-mul, v-neg, v-pos, v-negsuc, v-at, atoms, 
 -- `by-ring ρ (rep (search vals depth 30)) (search reps depth 12) tt`
 abbrev pub rep : {ρ : List ℤ} {z : ℤ} → Val ρ z → Rep ρ z
 rep a = a .read
+
+-- ---- a difference of small numbers
+module _ (x y : ℤ) (h : Within 400000000 x) (k : Within 400000000 y) where
+  pub sub-fits : SFits w64 (toZ w64 (ofZ w64 x) -ℤ toZ w64 (ofZ w64 y))
+  sub-fits = fits (search bounds depth 12) tt
+
+  pub round-sub : toZ w64 (ofZ w64 (toZ w64 (ofZ w64 x) -ℤ toZ w64 (ofZ w64 y))) ≡ x -ℤ y
+  round-sub =
+      let f : SFits w64 x = fits (search bounds depth 4) tt in
+      let g : SFits w64 y = fits (search bounds depth 4) tt in
+      toZ-ofZ sub-fits ∙ ap₂ _-ℤ_ (toZ-ofZ f) (toZ-ofZ g)

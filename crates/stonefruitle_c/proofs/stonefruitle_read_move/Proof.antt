@@ -9,12 +9,12 @@ use borrow.Author.Needs.{needs}
 use Rattle.stonefruitle_c.proofs.stonefruitle_read_move.Statement.{statement}
 use Rattle.stonefruitle_c.proofs.stonefruitle_read_move.Tie as tie
 
-read-line-requires : tie.Need-read-line-requires
-read-line-requires c κs = search needs
+read-outlines-requires : tie.Need-read-outlines-requires
+read-outlines-requires c κs = search needs
 
 numbers-of-requires : tie.Need-numbers-of-requires
 numbers-of-requires c κs =
-    subst (λ (r : Reading). Kept (r .held .a) × Kept (r .held .b)) (sym (c .read-line .ensures)) (line-kept (c .before .before .args .line .now))
+    subst (λ (r : Reading). Kept (r .held .a) × Kept (r .held .b)) (sym (c .read-outlines .ensures)) (line-kept (c .before .before .args .line .now))
 
 edge-or-requires : tie.Need-edge-or-requires
 edge-or-requires c κs = search needs
@@ -24,10 +24,10 @@ number-of-requires c κs = search needs
 
 returns : tie.Need-returns
 returns c =
-    let is = c .before .before .before .before .read-line .ensures in
+    let is = c .before .before .before .before .read-outlines .ensures in
     (hands (c .before .before .before .before .before .before .args .edge .now) (ap (λ (r : Reading). r .refusal) is) (c .number-of .ensures) (c .before .edge-or .ensures), c .before .before .before .numbers-of .ensures ∙ ap (λ (r : Reading). numbers (r .held)) is)
 
 pub stonefruitle-read-move-spec : {M : Type 1} → statement M
 stonefruitle-read-move-spec =
     tie.close
-    (tie.spec read-line-requires numbers-of-requires edge-or-requires number-of-requires returns)
+    (tie.spec read-outlines-requires numbers-of-requires edge-or-requires number-of-requires returns)

@@ -1,11 +1,9 @@
 -- Either outline's function gives the side, and the definition's window follows from it.
 use mathlib.Core.Path.{_≡_, sym, _∙_, ap₂, subst}
 use mir.Syntax.{w64}
-use mir.Val.{SFits, toZ, ofZ}
-use mir.Facts.{toZ-ofZ}
+use mir.Val.{toZ, ofZ}
 use borrow.Author.Needs.{needs}
-use Rattle.whole.proofs.Bound.{bounds, fits}
-use Rattle.span.proofs.Casts.{limit-within}
+use Rattle.span.proofs.Casts.{limit-read}
 use Rattle.moves.specs.HeldMove.{Fit}
 use Rattle.moves.specs.declared.HeldMove.{HeldMove}
 use Rattle.verdict.specs.Span.{span}
@@ -15,10 +13,7 @@ use Rattle.verdict.proofs.spans.span.Statement.{statement}
 use Rattle.verdict.proofs.spans.span.Tie as tie
 
 limit-is : (m : HeldMove) → Fit m → toZ w64 (ofZ w64 (m .limit)) ≡ m .limit
-limit-is m fit =
-    let t = limit-within (m .limit) (fit .from-zero, fit .to-limit) in
-    let f : SFits w64 (m .limit) = fits (search bounds depth 4) tt in
-    toZ-ofZ f
+limit-is m fit = limit-read (m .limit) (fit .from-zero, fit .to-limit)
 
 side-of-a-requires : tie.Need-side-of-a-requires
 side-of-a-requires c κs = search needs

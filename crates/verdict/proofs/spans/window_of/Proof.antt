@@ -1,12 +1,13 @@
 -- The window of the code is the definition's, number by number: the two speeds are what the calls ensure, and all differences fit.
 use mathlib.Core.Path.{_≡_, sym, _∙_, ap₂, subst}
-use lib.IntN.{ℤ, _-ℤ_}
+use lib.IntN.{_-ℤ_}
 use mir.Syntax.{w64}
-use mir.Val.{SFits, toZ, ofZ}
+use mir.Val.{toZ, ofZ}
 use mir.Facts.{toZ-ofZ}
 use borrow.Author.Needs.{needs}
 use Rattle.whole.specs.Within.{Within}
-use Rattle.whole.proofs.Bound.{bounds, fits, within}
+use Rattle.whole.proofs.Bound.{bounds, within}
+use Rattle.whole.proofs.Machine.{sub-fits, round-sub}
 use Rattle.plane.proofs.Sizes.{dot-within}
 use Rattle.verdict.specs.Projections.{Small}
 use Rattle.verdict.specs.declared.spans.Projections.{Projections}
@@ -22,16 +23,6 @@ dot-requires c κs = search needs
 
 dot-requires-2 : tie.Need-dot-requires-2
 dot-requires-2 c κs = search needs
-
--- what the machine makes of a difference of small numbers
-sub-fits : (x y : ℤ) → Within 400000000 x → Within 400000000 y → SFits w64 (toZ w64 (ofZ w64 x) -ℤ toZ w64 (ofZ w64 y))
-sub-fits x y h k = fits (search bounds depth 12) tt
-
-round-sub : (x y : ℤ) → Within 400000000 x → Within 400000000 y → toZ w64 (ofZ w64 (toZ w64 (ofZ w64 x) -ℤ toZ w64 (ofZ w64 y))) ≡ x -ℤ y
-round-sub x y h k =
-    let f : SFits w64 x = fits (search bounds depth 4) tt in
-    let g : SFits w64 y = fits (search bounds depth 4) tt in
-    toZ-ofZ (sub-fits x y h k) ∙ ap₂ _-ℤ_ (toZ-ofZ f) (toZ-ofZ g)
 
 -- after the two calls that find the speeds
 module _ (c : lts.After-dot2 (dot-reads.Asked, dot-reads.Learnt, window-reads.Asked, window-reads.Learnt) reads.Pre reads.Post) where
