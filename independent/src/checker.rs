@@ -176,19 +176,33 @@ fn keep(span: Span, rate: i128, room: i128) -> Option<Span> {
     }
 }
 
-/// Two closed intervals share a value exactly when neither starts above the
-/// other's end. Each of these two conditions is linear in the time.
-pub fn span(m: &Move, direction: Point) -> Option<Span> {
-    let (low_a, high_a) = interval(&m.a, direction);
-    let (low_b, high_b) = interval(&m.b, direction);
-    let speed_a = direction.dot(m.velocity_a);
-    let speed_b = direction.dot(m.velocity_b);
+/// The times from zero to the limit at which two closed intervals, each moving
+/// at its speed, share a value: exactly when neither starts above the other's
+/// end. Each of these two conditions is linear in the time.
+pub fn shared_times(
+    limit: i128,
+    (low_a, high_a): (i128, i128),
+    speed_a: i128,
+    (low_b, high_b): (i128, i128),
+    speed_b: i128,
+) -> Option<Span> {
     let whole = Span {
         begin: Fraction::whole(0),
-        end: Fraction::whole(m.limit),
+        end: Fraction::whole(limit),
     };
     keep(whole, speed_a - speed_b, high_b - low_a)
         .and_then(|rest| keep(rest, speed_b - speed_a, high_a - low_b))
+}
+
+/// The span of a side with this direction.
+pub fn span(m: &Move, direction: Point) -> Option<Span> {
+    shared_times(
+        m.limit,
+        interval(&m.a, direction),
+        direction.dot(m.velocity_a),
+        interval(&m.b, direction),
+        direction.dot(m.velocity_b),
+    )
 }
 
 /// The sides, in order, on which the two projections at time zero share

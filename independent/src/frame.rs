@@ -1,6 +1,7 @@
 //! Move lines in, answer lines out. Lines are held here without their 0a.
 
 use super::checker::{lowest_bad_edge, point, verdict, Move, Point, Showing, Verdict};
+use super::rectangle::{self, RectangleMove};
 
 /// Why a line is turned away. Refusal 1 is about lent room and cannot arise in
 /// a program that owns its output.
@@ -13,7 +14,7 @@ pub enum Refusal {
     Speed,
     Place,
     /// With the lowest edge that has a corner not strictly to its left
-    /// (request Q-3), as the next.
+    /// (request Q-3), as the next; of a rectangle with 0 (request Q-5).
     First(usize),
     Second(usize),
     /// In a log (request Q-2).
@@ -66,11 +67,31 @@ pub fn bytes_of(line: &[u8], most: usize) -> Option<Vec<u8>> {
         .collect()
 }
 
-fn in_reach(p: Point) -> bool {
+pub fn in_reach(p: Point) -> bool {
     (-REACH..=REACH).contains(&p.x) && (-REACH..=REACH).contains(&p.y)
 }
 
-/// Reads a move, or gives the first refusal that applies to the whole of it.
+/// What a bare line asks about: a move of kind 01, or one of kind 02 (request
+///
+#[derive(Clone, Debug, PartialEq, Eq)]
+pub enum Asked {
+    Outlines(Move),
+    Rectangles(RectangleMove),
+}
+
+/// Reads a line of either kind, or gives the first refusal that applies to the
+/// whole of it.
+pub fn read_line(line: &[u8]) -> Result<Asked, Refusal> {
+    let frame = bytes_of(line, MOST_DIGITS).ok_or(Refusal::Digits)?;
+    match frame[0] {
+        0x01 => read_frame(&frame).map(Asked::Outlines),
+        0x02 => rectangle::read_frame(&frame).map(Asked::Rectangles),
+        _ => Err(Refusal::Kind),
+    }
+}
+
+/// The same where only a move of kind 01 will do, as tests ask.
+#[allow(dead_code)]
 pub fn read_move(line: &[u8]) -> Result<Move, Refusal> {
     let frame = bytes_of(line, MOST_DIGITS).ok_or(Refusal::Digits)?;
     if frame[0] != 0x01 {
@@ -79,7 +100,7 @@ pub fn read_move(line: &[u8]) -> Result<Move, Refusal> {
     read_frame(&frame)
 }
 
-/// The same of a frame whose first byte is 01.
+/// Reads a frame whose first byte is 01.
 pub fn read_frame(frame: &[u8]) -> Result<Move, Refusal> {
     let m = read_fields(frame)?;
     if let Some(edge) = lowest_bad_edge(&m.a) {
@@ -182,5 +203,8 @@ pub fn write_answer(answer: &Result<Verdict, Refusal>) -> Vec<u8> {
 
 /// What a line is answered with, before it is written.
 pub fn answer(line: &[u8]) -> Result<Verdict, Refusal> {
-    read_move(line).map(|m| verdict(&m))
+    read_line(line).map(|asked| match asked {
+        Asked::Outlines(m) => verdict(&m),
+        Asked::Rectangles(m) => rectangle::verdict(&m),
+    })
 }

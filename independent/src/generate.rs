@@ -226,11 +226,11 @@ impl Rng {
         self.range(low, bound.min(high))
     }
 
-    fn within(&mut self, reach: i128) -> Point {
+    pub fn within(&mut self, reach: i128) -> Point {
         point(self.range(-reach, reach), self.range(-reach, reach))
     }
 
-    fn nonzero_within(&mut self, reach: i128) -> Point {
+    pub fn nonzero_within(&mut self, reach: i128) -> Point {
         loop {
             let p = self.within(reach);
             if p != point(0, 0) {
@@ -381,7 +381,7 @@ fn shortest(step: Point) -> Point {
 // ---------------------------------------------------------------------------
 // Putting a move together
 
-fn any_limit(rng: &mut Rng) -> i128 {
+pub fn any_limit(rng: &mut Rng) -> i128 {
     match rng.index(8) {
         0 => 0,
         1 => REACH,
@@ -394,7 +394,13 @@ fn any_limit(rng: &mut Rng) -> i128 {
 /// keep their places to one another but are shifted together into range,
 /// share a random velocity, and change names half the time, so that the sides
 /// that matter are as often B's. `None` if it does not fit.
-fn put_together(rng: &mut Rng, a: &[Point], b: &[Point], w: Point, limit: i128) -> Option<Move> {
+pub fn put_together(
+    rng: &mut Rng,
+    a: &[Point],
+    b: &[Point],
+    w: Point,
+    limit: i128,
+) -> Option<Move> {
     let both = [a, b].concat();
     let (low, high) = bounds(&both);
     let mut shift = |low: i128, high: i128| {
@@ -743,7 +749,7 @@ pub fn scattered(rng: &mut Rng, outline: &[Point]) -> Vec<Point> {
     shifted(outline, by)
 }
 
-fn full_speed(rng: &mut Rng) -> i128 {
+pub fn full_speed(rng: &mut Rng) -> i128 {
     match rng.index(8) {
         0 => -REACH,
         1 => REACH,
@@ -1312,7 +1318,7 @@ pub fn bad_move(rng: &mut Rng, class: Class) -> Move {
 // ---------------------------------------------------------------------------
 // Lines that are not a move
 
-fn just_outside(rng: &mut Rng) -> i128 {
+pub fn just_outside(rng: &mut Rng) -> i128 {
     rng.pick(&[
         REACH + 1,
         -REACH - 1,
@@ -1323,7 +1329,7 @@ fn just_outside(rng: &mut Rng) -> i128 {
     ])
 }
 
-fn put_coordinate(rng: &mut Rng, p: &mut Point, value: i128) {
+pub fn put_coordinate(rng: &mut Rng, p: &mut Point, value: i128) {
     if rng.one_in(2) {
         p.x = value;
     } else {

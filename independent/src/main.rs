@@ -4,10 +4,12 @@ mod checker;
 mod frame;
 mod generate;
 mod log;
+mod rectangle;
 mod runs;
+mod trays;
 
 use checker::{directions, edge, touched_at_zero, verdict, Move, Showing, Verdict};
-use frame::Refusal;
+use frame::{Asked, Refusal};
 use generate::{bad_edges, Set, BAD_EDGES};
 use log::{Kept, Step};
 use runs::Log;
@@ -16,15 +18,16 @@ use std::process::ExitCode;
 
 const USAGE: &str = "usage: independent [answer]
        independent answer log
+       independent four-corners
        independent moves SEED COUNT [SET | CLASS]
        independent count SEED COUNT [SET | CLASS]";
 
-/// One answer line for each line of the input. Lines end at byte 0a; a last
-/// one without it counts if it has a byte.
-fn answer(
+/// One line for each line of the input. Lines end at byte 0a; a last one
+/// without it counts if it has a byte.
+fn each_line(
     mut input: impl BufRead,
     mut output: impl Write,
-    mut to: impl FnMut(&[u8]) -> Result<Verdict, Refusal>,
+    mut to: impl FnMut(&[u8]) -> Vec<u8>,
 ) -> io::Result<()> {
     let mut line = Vec::new();
     loop {
@@ -35,10 +38,28 @@ fn answer(
         if line.last() == Some(&b'\n') {
             line.pop();
         }
-        let mut written = frame::write_answer(&to(&line));
+        let mut written = to(&line);
         written.push(b'\n');
         output.write_all(&written)?;
     }
+}
+
+/// One answer line for each line of the input.
+fn answer(
+    input: impl BufRead,
+    output: impl Write,
+    mut to: impl FnMut(&[u8]) -> Result<Verdict, Refusal>,
+) -> io::Result<()> {
+    each_line(input, output, |line| frame::write_answer(&to(line)))
+}
+
+/// Each move of kind 02 as the one of kind 01 that has the same answer (request
+/// Q-5). Other lines, refused ones among them, stay as they are.
+fn four_corners(input: impl BufRead, output: impl Write) -> io::Result<()> {
+    each_line(input, output, |line| match frame::read_line(line) {
+        Ok(Asked::Rectangles(m)) => frame::write_move(&rectangle::four_corners(&m)),
+        _ => line.to_vec(),
+    })
 }
 
 /// The same of a log, whose answers depend on the lines before.
@@ -51,18 +72,24 @@ fn answer_log(input: impl BufRead, output: impl Write) -> io::Result<()> {
     })
 }
 
-/// What lines are made of: classes of moves, or of the lines of a log.
+/// What lines are made of: classes of moves, of moves of kind 02, or of the
+/// lines of a log.
 #[derive(Clone, Copy)]
 enum Made {
     Moves(Set),
+    Trays(trays::Set),
     Log(runs::Set),
 }
 
 /// The set or the class of this name.
 fn made_named(name: &str) -> Option<Made> {
     let moves = generate::set_named(name).or_else(|| generate::class_named(name));
+    let trays = || trays::set_named(name).or_else(|| trays::class_named(name));
     let log = || runs::set_named(name).or_else(|| runs::class_named(name));
-    moves.map(Made::Moves).or_else(|| log().map(Made::Log))
+    moves
+        .map(Made::Moves)
+        .or_else(|| trays().map(Made::Trays))
+        .or_else(|| log().map(Made::Log))
 }
 
 fn moves(mut output: impl Write, seed: u64, count: u64, made: Made) -> io::Result<()> {
@@ -74,6 +101,10 @@ fn moves(mut output: impl Write, seed: u64, count: u64, made: Made) -> io::Resul
         Made::Moves(set) => (0..count).try_for_each(|place| {
             let class = generate::class_of_place(set, place);
             put(generate::line(seed, place, class))
+        })?,
+        Made::Trays(set) => (0..count).try_for_each(|place| {
+            let class = trays::class_of_place(set, place);
+            put(trays::line(seed, place, class))
         })?,
         Made::Log(set) => Log::new(seed, set)
             .take(count as usize)
@@ -97,7 +128,7 @@ fn touches_two_ways(m: &Move) -> bool {
     touched.iter().any(|&k| all[touched[0]].cross(all[k]) != 0)
 }
 
-fn cases(read: &Result<Move, frame::Refusal>) -> Vec<&'static str> {
+fn cases(read: &Result<Move, Refusal>) -> Vec<&'static str> {
     let m = match read {
         Err(refusal) => return vec![CASES[refusal.number() as usize + 11]],
         Ok(m) => m,
@@ -135,6 +166,54 @@ fn cases(read: &Result<Move, frame::Refusal>) -> Vec<&'static str> {
                 Showing::CornerOfA(_) => "kind0",
                 Showing::CornerOfB(_) => "kind1",
                 Showing::Edges(_, _) => "kind2",
+            });
+            all
+        }
+    }
+}
+
+/// The cases of request Q-5: the sides named and what shows. A contact counts
+/// at zero by its bearing, `ff`, 0 or 1; later by it, and as `tie` if both spans
+/// begin then; and by the corner of A or of B or the edges that show. The last
+/// are lines of kind 01 that are accepted.
+const TRAY_CASES: [&str; 30] = [
+    "clear-0", "clear-1", "clear-01", "clear-10", "zero-ff", "zero-0", "zero-1", "later-0",
+    "later-1", "tie", "instant", "A0", "A1", "A2", "A3", "B0", "B1", "B2", "B3", "0+1", "1+0",
+    "r2", "r3", "r4", "r5", "r6", "r7", "r8", "r9", "kind-01",
+];
+
+fn tray_cases(read: &Result<Asked, Refusal>) -> Vec<&'static str> {
+    let m = match read {
+        Err(refusal) => return vec![TRAY_CASES[refusal.number() as usize + 19]],
+        Ok(Asked::Outlines(_)) => return vec!["kind-01"],
+        Ok(Asked::Rectangles(m)) => m,
+    };
+    match rectangle::verdict(m) {
+        Verdict::ClearByOne(k) => vec![TRAY_CASES[k]],
+        Verdict::ClearByTwo(i, _) => vec![TRAY_CASES[i + 2]],
+        Verdict::Contact {
+            first,
+            last,
+            bearing,
+            showing,
+        } => {
+            let mut all = vec![match bearing {
+                None => "zero-ff",
+                Some(side) if first.n == 0 => TRAY_CASES[side + 5],
+                Some(side) => TRAY_CASES[side + 7],
+            }];
+            if first.n > 0 && rectangle::begin_together(m) {
+                all.push("tie");
+            }
+            if first == last {
+                all.push("instant");
+            }
+            all.push(match showing {
+                Showing::CornerOfA(i) => TRAY_CASES[i + 11],
+                Showing::CornerOfB(j) => TRAY_CASES[j + 15],
+                Showing::Edges(0, 1) => "0+1",
+                Showing::Edges(1, 0) => "1+0",
+                Showing::Edges(_, _) => panic!("rectangles cross in two ways"),
             });
             all
         }
@@ -320,6 +399,7 @@ impl Table {
 fn count(mut output: impl Write, seed: u64, count: u64, made: Made) -> io::Result<()> {
     match made {
         Made::Moves(set) => count_moves(seed, count, set).write(&mut output)?,
+        Made::Trays(set) => count_trays(seed, count, set).write(&mut output)?,
         Made::Log(set) => {
             let (table, lost) = count_log(seed, count, set);
             table.write(&mut output)?;
@@ -339,11 +419,25 @@ fn count_moves(seed: u64, count: u64, set: Set) -> Table {
         let class = generate::class_of_place(set, place);
         let row = set.iter().position(|(c, _)| *c == class).unwrap();
         let line = generate::line(seed, place, class);
-        let read = frame::read_move(&line);
+        let read = frame::read_line(&line).map(|asked| match asked {
+            Asked::Outlines(m) => m,
+            Asked::Rectangles(m) => rectangle::four_corners(&m),
+        });
         let mut met = cases(&read);
         let refusal = read.err();
         met.extend(refusal.map_or(Vec::new(), |r| edge_cases(&line, r)));
         table.add(row, &met, refusal);
+    }
+    table
+}
+
+fn count_trays(seed: u64, count: u64, set: trays::Set) -> Table {
+    let mut table = Table::new(&TRAY_CASES, set.iter().map(|(_, name)| *name));
+    for place in 0..count {
+        let class = trays::class_of_place(set, place);
+        let row = set.iter().position(|(c, _)| *c == class).unwrap();
+        let read = frame::read_line(&trays::line(seed, place, class));
+        table.add(row, &tray_cases(&read), read.err());
     }
     table
 }
@@ -383,6 +477,7 @@ fn main() -> ExitCode {
     let done = match words[..] {
         [] | ["answer"] => Some(answer(input(), output, frame::answer)),
         ["answer", "log"] => Some(answer_log(input(), output)),
+        ["four-corners"] => Some(four_corners(input(), output)),
         [task @ ("moves" | "count"), seed, lines, ref of @ ..] if of.len() <= 1 => {
             let of = of.first().copied().unwrap_or("base");
             wanted(seed, lines, of).map(|(seed, lines, made)| match task {
@@ -412,3 +507,5 @@ mod tests;
 mod tests_edges;
 #[cfg(test)]
 mod tests_log;
+#[cfg(test)]
+mod tests_trays;
