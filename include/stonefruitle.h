@@ -12,8 +12,8 @@
  * Go on clear and on nothing else: a return of 0, line[2] == '0', and line[3]
  * == '0' or '1'. examples/c/answer.c does so. docs/FORMAT.md has every byte of
  * the lines. stonefruitle_read_line, stonefruitle_read_move,
- * stonefruitle_read_log and stonefruitle_test_outline do not look whether
- * outlines meet at all.
+ * stonefruitle_read_rectangles, stonefruitle_read_log and
+ * stonefruitle_test_outline do not look whether outlines meet at all.
  *
  * Link with libstonefruitle_c.a (`rt staticlib stonefruitle_c` writes it to
  * target/staticlib). Each function is proved to meet its contract, which says
@@ -24,9 +24,9 @@
  *
  * Stack    under 6 KB. Measured by painting a stack before the call: 5.5 KB for
  *          stonefruitle_log_step, 5.3 for stonefruitle_read_log, 5.1 for
- *          stonefruitle_read_move, 4.0 for stonefruitle_answer_line, 3.9 for
- *          stonefruitle_write_move and stonefruitle_read_line, less for the
- *          others.
+ *          stonefruitle_read_move, 4.1 for stonefruitle_read_line, 4.0 for
+ *          stonefruitle_answer_line, 3.9 for stonefruitle_write_move, less for
+ *          the others; 1.3 at most for rectangles, as lines or as numbers.
  * Time     bounded, whatever is handed in. A longer line or list is refused
  *          unread. Each outline's 16 corners at most are tried against its 16
  *          edges. At most 32 sides are worked, each with 32 products for the
@@ -34,9 +34,10 @@
  *          they are gone through once more at most. For a contact, 2 times 16
  *          corners at most are tried against 16 edges, and 256 pairs of edges
  *          in 4 directions; two fractions are brought to lowest terms by at
- *          most 43 divisions each. The slowest of 5802 moves of twice 16
- *          corners took 16 microseconds on one core of an Intel Xeon server:
- *          a figure of one machine, not a promise.
+ *          most 43 divisions each. Of rectangles two spans are worked, and 8
+ *          corners at most are tried by comparisons. The slowest of 5802 moves
+ *          of twice 16 corners took 16 microseconds on one core of an Intel Xeon
+ *          server: a figure of one machine, not a promise.
  * Memory   nothing is allocated and nothing is kept between calls: there are no
  *          globals and no locks, so calls are safe from several threads, each
  *          with its own buffers.
@@ -48,13 +49,17 @@
  * another output.
  *
  * Numbers. An outline is a list of coordinates x, y, x, y, .. of its 3 to 16
- * corners, counterclockwise, so 6 to 32 numbers. Coordinates and velocity
+ * corners, counterclockwise, so 6 to 32 numbers. A rectangle, upright on the
+ * bed, is a list of four: low x, low y, high x, high y. Coordinates and velocity
  * components are from -10000 to 10000, the limit is from 0 to 10000. Numbers
  * outside are refused; no input of any kind is undefined.
  *
  * Lines. A move line, a line of a log or an answer line is hexadecimal text,
  * closed by byte 0a where it is written and handed in without it
- * (docs/FORMAT.md).
+ * (docs/FORMAT.md). A move line is of kind 01, two outlines, or of kind 02, two
+ * rectangles; those of a log are of kind 01 only. A move of two rectangles is
+ * answered as that of two outlines whose four corners run from low x, low y
+ * counterclockwise, with its sides and corners.
  *
  * Each function returns the number of its refusal, 0 for none. Of several that
  * apply the first in this list is returned.
@@ -63,7 +68,8 @@
  * edge. With refusals 8 and 9, and with no other return, it is written: the
  * lowest edge of that outline that has a corner, other than its two ends, not
  * strictly to its left. Edge i runs from corner i to corner i + 1, the last to
- * corner 0. With any other return *edge is left as it was.
+ * corner 0. Of a rectangle it is 0. With any other return *edge is left as it
+ * was.
  */
 #ifndef STONEFRUITLE_H
 #define STONEFRUITLE_H
@@ -75,18 +81,23 @@
 #define STONEFRUITLE_NONE 0   /* no refusal; a contact is none */
 #define STONEFRUITLE_ROOM 1   /* too few bytes lent for the line */
 #define STONEFRUITLE_DIGITS 2 /* a line that is empty, odd in length, over 282 digits (288 in a log), or with another character than 0-9 and a-f */
-#define STONEFRUITLE_KIND 3   /* a line whose first byte is not 01; in a log, not 03, or a fourth byte is there and is not 01 */
-#define STONEFRUITLE_COUNT 4  /* a count of corners outside 3 to 16, a list of odd length, or a line of another length than its counts ask for */
+#define STONEFRUITLE_KIND 3   /* a line whose first byte is neither 01 nor 02, or of another kind than is read; in a log, not 03, or a fourth byte is there and is not 01 */
+#define STONEFRUITLE_COUNT 4  /* a count of corners outside 3 to 16, a list of odd length, or a line of another length than its counts ask for; of rectangles, a list not of four numbers or a line not of 27 bytes */
 #define STONEFRUITLE_LIMIT 5  /* the limit is outside 0 to 10000 */
 #define STONEFRUITLE_SPEED 6  /* a velocity component is outside -10000 to 10000 */
 #define STONEFRUITLE_PLACE 7  /* a coordinate is outside -10000 to 10000 */
-#define STONEFRUITLE_FIRST 8  /* the first outline is not sound; *edge says which edge is wrong */
-#define STONEFRUITLE_SECOND 9 /* the second outline is not sound, likewise */
+#define STONEFRUITLE_FIRST 8  /* the first outline is not sound; *edge says which edge is wrong. The first rectangle's low is not below its high in x or in y; *edge is 0 */
+#define STONEFRUITLE_SECOND 9 /* the second outline or rectangle, likewise */
 #define STONEFRUITLE_ORDER 10 /* a line of a log whose number does not follow the kept one */
 
-/* The least room for an answer line and for a move line, 0a included. */
+/* The kinds of a move line: two outlines, two rectangles. */
+#define STONEFRUITLE_OUTLINES 1
+#define STONEFRUITLE_RECTANGLES 2
+
+/* The least room for an answer line and for a move line of either kind, 0a included. */
 #define STONEFRUITLE_ANSWER_ROOM 45
 #define STONEFRUITLE_MOVE_ROOM 283
+#define STONEFRUITLE_RECTANGLES_ROOM 55
 
 /* How many numbers stonefruitle_read_move and stonefruitle_read_log hand out, and where they stand. */
 #define STONEFRUITLE_NUMBERS 71
@@ -98,12 +109,17 @@
 #define STONEFRUITLE_AT_A 7
 #define STONEFRUITLE_AT_B 39
 
+/* The same of stonefruitle_read_rectangles, whose limit and velocities stand in the same places. */
+#define STONEFRUITLE_RECTANGLES_NUMBERS 13
+#define STONEFRUITLE_AT_RECTANGLE_A 5
+#define STONEFRUITLE_AT_RECTANGLE_B 9
+
 #ifdef __cplusplus
 extern "C" {
 #endif
 
 /*
- * The answer to a move line.
+ * The answer to a move line of either kind.
  *
  * Takes the line without its 0a, a buffer for the answer line, a place for its
  * length and one for an edge. Refusals: 1 where out_length is under 45, then 2
@@ -160,27 +176,75 @@ uint8_t stonefruitle_write_move(const int64_t *a, size_t a_length,
                                 size_t *written, uint8_t *edge);
 
 /*
- * Whether a line is a move.
+ * The answer to a move of two rectangles handed in as numbers.
  *
- * Takes the line without its 0a and a place for an edge, and writes nothing
- * else. Refusals: 2 to 9, and with 8 and 9 *edge is written. 0 says nothing of
- * whether the outlines meet.
+ * Takes what stonefruitle_answer_lists takes, but of each rectangle the four
+ * numbers low x, low y, high x, high y, so that a_length and b_length are 4.
+ * Refusals: 1 where out_length is under 45, 4 where a length is not 4, then 5 to
+ * 9.
+ *
+ * out, *written and *edge are left as by stonefruitle_answer_line.
  */
-uint8_t stonefruitle_read_line(const uint8_t *line, size_t line_length,
-                               uint8_t *edge);
+uint8_t stonefruitle_answer_rectangles(const int64_t *a, size_t a_length,
+                                       const int64_t *b, size_t b_length,
+                                       int64_t vax, int64_t vay,
+                                       int64_t vbx, int64_t vby, int64_t limit,
+                                       uint8_t *out, size_t out_length,
+                                       size_t *written, uint8_t *edge);
 
 /*
- * The move of a line, as numbers.
+ * The line, of kind 02, of a move of two rectangles handed in as numbers.
+ *
+ * Takes what stonefruitle_answer_rectangles takes. Refusals: 1 where out_length
+ * is under 55, then 4 to 9.
+ *
+ * Without a refusal, the first *written bytes of out, which are 55, are the line
+ * with its 0a, and the bytes after it stay as they were. With a refusal nothing
+ * is written to out and *written is 0; with 8 and 9 *edge is written.
+ */
+uint8_t stonefruitle_write_rectangles(const int64_t *a, size_t a_length,
+                                      const int64_t *b, size_t b_length,
+                                      int64_t vax, int64_t vay,
+                                      int64_t vbx, int64_t vby, int64_t limit,
+                                      uint8_t *out, size_t out_length,
+                                      size_t *written, uint8_t *edge);
+
+/*
+ * Whether a line is a move, and of which kind.
+ *
+ * Takes the line without its 0a, a place for its kind and one for an edge, and
+ * writes nothing else. Refusals: 2 to 9, and with 8 and 9 *edge is written.
+ * Without a refusal *kind is 1 for two outlines or 2 for two rectangles; with
+ * one it is left as it was. 0 says nothing of whether the outlines meet.
+ */
+uint8_t stonefruitle_read_line(const uint8_t *line, size_t line_length,
+                               uint8_t *kind, uint8_t *edge);
+
+/*
+ * The move of a line of kind 01, as numbers.
  *
  * Takes the line without its 0a, a place for 71 numbers and one for an edge.
  * All 71 numbers are written: the limit; the velocity x, y of A; that of B; the
  * count of corners of A; that of B; x, y of A's sixteen corner places; those of
- * B's. Places past the count are zero. Refusals: 2 to 9, and then all 71
- * numbers are zero; with 8 and 9 *edge is written.
+ * B's. Places past the count are zero. Refusals: 2 to 9, 3 for a line of kind
+ * 02, and then all 71 numbers are zero; with 8 and 9 *edge is written.
  */
 uint8_t stonefruitle_read_move(const uint8_t *line, size_t line_length,
                                int64_t numbers[STONEFRUITLE_NUMBERS],
                                uint8_t *edge);
+
+/*
+ * The move of a line of kind 02, as numbers.
+ *
+ * Takes the line without its 0a, a place for 13 numbers and one for an edge. All
+ * 13 numbers are written: the limit; the velocity x, y of A; that of B; low x,
+ * low y, high x, high y of A; those of B. Refusals: 2 to 9, 3 for a line of kind
+ * 01, and then all 13 numbers are zero; with 8 and 9 *edge, which is 0, is
+ * written.
+ */
+uint8_t stonefruitle_read_rectangles(
+    const uint8_t *line, size_t line_length,
+    int64_t numbers[STONEFRUITLE_RECTANGLES_NUMBERS], uint8_t *edge);
 
 /*
  * One line of a log: its answer, and what it leaves for the next line.

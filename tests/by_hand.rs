@@ -10,8 +10,9 @@
 //! It shares no code with the program or with the independent one. What the
 //! document concludes from the numbers is checked here before it is printed:
 //! the weights against the definition of a common point, each statement about
-//! a side against the corners at many times, and the edge that is wrong against
-//! what a sound outline is.
+//! a side against the corners at many times, the edge that is wrong against
+//! what a sound outline is, and the two spans of rectangles against the sides of
+//! their four corners.
 
 use std::fmt;
 
@@ -461,12 +462,15 @@ fn frame_table(frame: &[u8], fields: &[(usize, String)]) -> String {
     format!("    {}\n\n{table}", hex(frame))
 }
 
+fn goes(v: Point) -> String {
+    match v {
+        Point(0, 0) => "stands still".to_string(),
+        _ => format!("moves by {v} per unit of time"),
+    }
+}
+
 /// The move in words, and the answer to the question about it.
 fn move_block(m: &Move, sides: &[Side], v: Verdict) -> String {
-    let goes = |p: Point| match p {
-        Point(0, 0) => "stands still".to_string(),
-        _ => format!("moves by {p} per unit of time"),
-    };
     let named = |k: usize| {
         let Side {
             of, edge, from, to, ..
@@ -524,21 +528,25 @@ fn line_block(m: &Move) -> String {
             fields.push((4, format!("{name}'s corner {i}: {c}")));
         }
     }
-    let mut out = frame_table(&m.frame, &fields);
-    let mut numbers: Vec<i128> = [m.va, m.vb].iter().flat_map(|v| [v.0, v.1]).collect();
-    numbers.extend(m.a.iter().chain(&m.b).flat_map(|c| [c.0, c.1]));
+    let pairs: Vec<Point> = [&[m.va, m.vb], &m.a[..], &m.b[..]].concat();
+    frame_table(&m.frame, &fields) + &signs(&pairs)
+}
+
+/// How those of the numbers that are below zero are read.
+fn signs(pairs: &[Point]) -> String {
+    let mut numbers: Vec<i128> = pairs.iter().flat_map(|p| [p.0, p.1]).collect();
     numbers.retain(|&v| v < 0);
     numbers.sort_by_key(|v| -v);
     numbers.dedup();
-    if !numbers.is_empty() {
-        let read = |v: &i128| {
-            let u = v + 65536;
-            format!("`{u:04x}` is {u}, read as {u} - 65536 = {v}")
-        };
-        let all: Vec<String> = numbers.iter().map(read).collect();
-        out += &format!("\nWith a sign: {}.\n", all.join("; "));
+    if numbers.is_empty() {
+        return String::new();
     }
-    out
+    let read = |v: &i128| {
+        let u = v + 65536;
+        format!("`{u:04x}` is {u}, read as {u} - 65536 = {v}")
+    };
+    let all: Vec<String> = numbers.iter().map(read).collect();
+    format!("\nWith a sign: {}.\n", all.join("; "))
 }
 
 /// The line of P3, by its difference from that of P1.
@@ -1044,6 +1052,389 @@ fn refusal_block(w: &Wrong) -> String {
 }
 
 // ---------------------------------------------------------------------------
+// Rectangles.
+
+/// A is from (0,0) to (4,2) and moves by (1,0); B is from (9,4) to (12,7) and
+/// moves by (-1,-2); T is 10.
+const R: &str = "02000a00010000fffffffe\
+                 0000000000040002\
+                 00090004000c0007";
+
+/// A move of two rectangles: low and high corner of each.
+struct Trays {
+    frame: Vec<u8>,
+    limit: i128,
+    va: Point,
+    vb: Point,
+    a: (Point, Point),
+    b: (Point, Point),
+}
+
+fn read_trays(line: &str) -> Trays {
+    let byte = |i: usize| u8::from_str_radix(&line[2 * i..2 * i + 2], 16);
+    let frame: Result<Vec<u8>, _> = (0..line.len() / 2).map(byte).collect();
+    let frame = frame.expect("two digits a byte");
+    check(frame[0] == 2, "the line is one of rectangles");
+    check(frame.len() == 27, "its length");
+    let signed = |at: usize| i16::from_be_bytes([frame[at], frame[at + 1]]) as i128;
+    let pair = |at: usize| Point(signed(at), signed(at + 2));
+    let trays = Trays {
+        limit: frame[1] as i128 * 256 + frame[2] as i128,
+        va: pair(3),
+        vb: pair(7),
+        a: (pair(11), pair(15)),
+        b: (pair(19), pair(23)),
+        frame,
+    };
+    for (low, high) in [trays.a, trays.b] {
+        check(low.0 < high.0 && low.1 < high.1, "low is below high");
+    }
+    trays
+}
+
+fn four_corners((low, high): (Point, Point)) -> Vec<Point> {
+    vec![low, Point(high.0, low.1), high, Point(low.0, high.1)]
+}
+
+/// The line of two outlines that has the same answer.
+fn corners_line(t: &Trays) -> String {
+    let (a, b) = (four_corners(t.a), four_corners(t.b));
+    let mut frame = vec![1, 4, 4, t.frame[1], t.frame[2]];
+    for p in [t.va, t.vb].iter().chain(&a).chain(&b) {
+        frame.extend((p.0 as i16).to_be_bytes());
+        frame.extend((p.1 as i16).to_be_bytes());
+    }
+    hex(&frame)
+}
+
+/// What there is on one axis: where A and B are on it at time zero, how fast they
+/// go, and when they share a value of it.
+struct Along {
+    name: char,
+    lowest: usize,
+    a: (i128, i128),
+    b: (i128, i128),
+    speed_a: i128,
+    speed_b: i128,
+    w: i128,
+    lo: i128,
+    hi: i128,
+    uncut: Span,
+    span: Span,
+}
+
+fn along(t: &Trays, name: char) -> Along {
+    let of = |p: Point| if name == 'x' { p.0 } else { p.1 };
+    let ends = |(low, high)| (of(low), of(high));
+    let (a, b, speed_a, speed_b) = (ends(t.a), ends(t.b), of(t.va), of(t.vb));
+    let (w, lo, hi) = (speed_b - speed_a, a.0 - b.1, a.1 - b.0);
+    check(w < 0, "on both axes of the document B comes from above");
+    let uncut = (Time { n: -hi, d: -w }, Time { n: -lo, d: -w });
+    let span = span(Some(uncut), false, t.limit);
+    Along {
+        name,
+        lowest: if name == 'y' { 0 } else { 1 },
+        a,
+        b,
+        speed_a,
+        speed_b,
+        w,
+        lo,
+        hi,
+        uncut,
+        span: span.expect("no span of the document's rectangles is empty"),
+    }
+}
+
+/// The rectangles worked out from two spans: y, which has side 0, then x.
+struct Trayed<'a> {
+    t: &'a Trays,
+    axes: [Along; 2],
+    /// The places in it of the greatest begin and of the least end.
+    latest: usize,
+    soonest: usize,
+    first: Time,
+    last: Time,
+    /// Where they are at first, times its d.
+    a: (Point, Point),
+    b: (Point, Point),
+    /// The lowest corner of A inside or on B.
+    corner: usize,
+}
+
+fn holds((low, high): (Point, Point), p: Point) -> bool {
+    low.0 <= p.0 && p.0 <= high.0 && low.1 <= p.1 && p.1 <= high.1
+}
+
+fn trayed(t: &Trays) -> Trayed<'_> {
+    let axes = ['y', 'x'].map(|name| along(t, name));
+    let [y, x] = &axes;
+    let latest = if y.span.0.before(x.span.0) { 1 } else { 0 };
+    let soonest = if x.span.1.before(y.span.1) { 1 } else { 0 };
+    let (first, last) = (axes[latest].span.0, axes[soonest].span.1);
+    check(!last.before(first) && first.n > 0, "a contact after zero");
+    let at = |(low, high), v| {
+        let corners = moved(&[low, high], v, first);
+        (corners[0], corners[1])
+    };
+    let (a, b) = (at(t.a, t.va), at(t.b, t.vb));
+    let corner = four_corners(a).iter().position(|&p| holds(b, p));
+    let corner = corner.expect("a corner of A shows");
+
+    // Against the eight sides of the four corners.
+    let m = read(Box::leak(corners_line(t).into_boxed_str()));
+    let sides = sides_of(&m);
+    for (k, side) in sides.iter().enumerate() {
+        let of = &axes[k % 2];
+        check(side.span == Some(of.span), "a side has its axis's span");
+    }
+    let bearing = axes[latest].lowest;
+    let same = match verdict(&m, &sides) {
+        Verdict::Contact(side, end, Showing::CornerOfA(i)) => {
+            (side, end, i) == (bearing, axes[soonest].lowest, corner)
+        }
+        _ => false,
+    };
+    check(same, "the verdict is that on the four corners");
+    check(extremes(&sides) == (first, last), "with its times");
+    Trayed {
+        t,
+        axes,
+        latest,
+        soonest,
+        first,
+        last,
+        a,
+        b,
+        corner,
+    }
+}
+
+impl Trayed<'_> {
+    fn corners(&self) -> Move {
+        read(Box::leak(corners_line(self.t).into_boxed_str()))
+    }
+
+    fn move_block(&self) -> String {
+        let t = self.t;
+        let (at, axis) = (four_corners(self.a)[self.corner], &self.axes[self.latest]);
+        let place = |n: i128| Time { n, d: self.first.d }.reduced();
+        format!(
+            "A is from {} to {} and {}. B is from {} to {} and {}. The limit T is {}.\n\n\
+             *At what instant would the rectangles first have met, and where?* At {}, at x = {}, y = {}, \
+             where A's corner {} is then. It is {} that bears, on side {}.\n",
+            t.a.0,
+            t.a.1,
+            goes(t.va),
+            t.b.0,
+            t.b.1,
+            goes(t.vb),
+            t.limit,
+            self.first,
+            place(at.0),
+            place(at.1),
+            self.corner,
+            axis.name,
+            axis.lowest
+        )
+    }
+
+    fn line_block(&self) -> String {
+        let t = self.t;
+        let fields = [
+            (1, "a move of two rectangles".to_string()),
+            (2, format!("the limit T is {}", t.limit)),
+            (4, format!("velocity of A: {}", t.va)),
+            (4, format!("velocity of B: {}", t.vb)),
+            (4, format!("A's low corner: {}", t.a.0)),
+            (4, format!("A's high corner: {}", t.a.1)),
+            (4, format!("B's low corner: {}", t.b.0)),
+            (4, format!("B's high corner: {}", t.b.1)),
+        ];
+        let pairs = [t.va, t.vb, t.a.0, t.a.1, t.b.0, t.b.1];
+        frame_table(&t.frame, &fields) + &signs(&pairs)
+    }
+
+    fn sides_block(&self) -> String {
+        let m = self.corners();
+        let sides = sides_of(&m);
+        let row = |k: usize| {
+            let (side, axis) = (&sides[k], &self.axes[k % 2]);
+            let Point(x, y) = side.direction;
+            check(
+                if axis.name == 'x' { y == 0 } else { x == 0 },
+                "its direction",
+            );
+            let step = side.to.minus(side.from);
+            let at = format!("{}'s edge {}", side.of, side.edge);
+            format!("{k} | {at} | {step} | {} | {}", side.direction, axis.name)
+        };
+        let rows: Vec<String> = (0..8).map(row).collect();
+        table(
+            "Side | Edge | Step (x, y) | Direction (y, -x) | Axis",
+            &rows,
+        )
+    }
+
+    fn spans_block(&self) -> String {
+        let row = |s: &Along| {
+            let w = difference(s.speed_b, s.speed_a, s.w);
+            let lo = difference(s.a.0, s.b.1, s.lo);
+            let hi = difference(s.a.1, s.b.0, s.hi);
+            let (begin, end) = (s.uncut.0.becomes(s.span.0), s.uncut.1.becomes(s.span.1));
+            let places = format!("{} to {} | {} to {}", s.a.0, s.a.1, s.b.0, s.b.1);
+            let lowest = s.lowest;
+            format!(
+                "{} | {lowest} | {places} | {w} | {lo} | {hi} | {begin} | {end}",
+                s.name
+            )
+        };
+        let rows: Vec<String> = self.axes.iter().map(row).collect();
+        table(
+            "Axis | Lowest side | A from low to high | B from low to high | w | lo | hi | Begin | End",
+            &rows,
+        )
+    }
+
+    fn verdict_block(&self) -> String {
+        let (first, last) = (self.first, self.last);
+        let row = |what: &str, t: Time, k: usize| {
+            let axis = &self.axes[k];
+            format!("{what} | {t} | {} | {}", axis.name, axis.lowest)
+        };
+        let rows = [
+            row("greatest begin", first, self.latest),
+            row("least end", last, self.soonest),
+        ];
+        let (l, r) = (first.n * last.d, last.n * first.d);
+        format!(
+            "{}\nNo span is empty. {}·{} = {l} and {}·{} = {r}; {l} does not exceed {r}: \
+             **contact from {first} to {last}**. First is above zero: the bearing side is {}, the lowest of {}.\n",
+            table(" | Time | Axis | Lowest side", &rows),
+            first.n,
+            last.d,
+            last.n,
+            first.d,
+            self.axes[self.latest].lowest,
+            self.axes[self.latest].name
+        )
+    }
+
+    /// When an axis keeps the rectangles apart: before first, and after last.
+    fn apart_block(&self) -> String {
+        let (x, y) = (&self.axes[self.latest], &self.axes[self.soonest]);
+        let early = format!(
+            "{} | A: {} | B: {} | {}·n < {}·d | n/d is before {}",
+            x.name,
+            term(x.a.1, x.speed_a),
+            term(x.b.0, x.speed_b),
+            -x.w,
+            -x.hi,
+            self.first
+        );
+        let late = format!(
+            "{} | B: {} | A: {} | {}·d < {}·n | n/d is after {}",
+            y.name,
+            term(y.b.1, y.speed_b),
+            term(y.a.0, y.speed_a),
+            -y.lo,
+            -y.w,
+            self.last
+        );
+        // Against the places themselves, at every n/d of the move with d up to 12.
+        let limit = self.t.limit;
+        for t in (1..=12).flat_map(|d| (0..=limit * d).map(move |n| Time { n, d })) {
+            let at = |end: i128, speed: i128| t.d * end + t.n * speed;
+            let below = at(x.a.1, x.speed_a) < at(x.b.0, x.speed_b);
+            check(below == t.before(self.first), "apart before first");
+            let below = at(y.b.1, y.speed_b) < at(y.a.0, y.speed_a);
+            check(below == self.last.before(t), "apart after last");
+        }
+        let head = "Axis | High of the lower | Low of the upper | The lower is below exactly when | That is";
+        table(head, &[early, late])
+    }
+
+    fn moved_block(&self) -> String {
+        let (t, Time { n, d }) = (self.t, self.first);
+        let mut rows = Vec::new();
+        for (name, kept, v, at) in [('A', t.a, t.va, self.a), ('B', t.b, t.vb, self.b)] {
+            for (end, from, to) in [("low", kept.0, at.0), ("high", kept.1, at.1)] {
+                rows.push(format!("{name}'s {end} | {d}·{from} + {n}·{v} = {to}"));
+            }
+        }
+        table(&format!("Corner | At {}, times {d}", self.first), &rows)
+    }
+
+    fn showing_block(&self) -> String {
+        let (low, high) = self.b;
+        let yes = |holds: bool| if holds { "yes" } else { "no" };
+        let row = |i: usize| {
+            let p = four_corners(self.a)[i];
+            let (x, y) = (low.0 <= p.0 && p.0 <= high.0, low.1 <= p.1 && p.1 <= high.1);
+            let both = if x && y { "**yes**" } else { "no" };
+            format!("{i}: {p} | {} | {} | {both}", yes(x), yes(y))
+        };
+        let rows: Vec<String> = (0..=self.corner).map(row).collect();
+        let head = format!(
+            "A's corner | x from {} to {} | y from {} to {} | Inside or on B",
+            low.0, high.0, low.1, high.1
+        );
+        format!(
+            "{}\nKind 0: A's corner {} shows.\n",
+            table(&head, &rows),
+            self.corner
+        )
+    }
+
+    fn weights_block(&self) -> String {
+        let showing = Showing::CornerOfA(self.corner);
+        weights_block(&common_point(&self.corners(), self.first, showing), showing)
+    }
+
+    fn answer(&self) -> Vec<u8> {
+        let mut frame = vec![0x81, 0x02];
+        for n in [self.first.n, self.first.d, self.last.n, self.last.d] {
+            frame.extend((n as u32).to_be_bytes());
+        }
+        let bearing = self.axes[self.latest].lowest;
+        frame.extend([bearing as u8, 0, self.corner as u8, 0]);
+        frame
+    }
+
+    fn answer_block(&self) -> String {
+        let m = self.corners();
+        let sides = sides_of(&m);
+        let (frame, fields) = answer(&sides, verdict(&m, &sides));
+        check(frame == self.answer(), "the answer to the four corners");
+        frame_table(&frame, &fields)
+    }
+
+    fn corners_block(&self) -> String {
+        let (a, b) = (four_corners(self.t.a), four_corners(self.t.b));
+        format!(
+            "A is {} and B is {}:\n\n    {}\n",
+            list(&a),
+            list(&b),
+            corners_line(self.t)
+        )
+    }
+
+    fn print(&self) {
+        block("R move", self.move_block());
+        block("R line", self.line_block());
+        block("R sides", self.sides_block());
+        block("R spans", self.spans_block());
+        block("R verdict", self.verdict_block());
+        block("R apart", self.apart_block());
+        block("R moved", self.moved_block());
+        block("R showing", self.showing_block());
+        block("R weights", self.weights_block());
+        block("R answer", self.answer_block());
+        block("R corners", self.corners_block());
+    }
+}
+
+// ---------------------------------------------------------------------------
 // The log.
 
 /// The numbers are those of two bytes, and half of them, but for the line
@@ -1251,11 +1642,14 @@ fn main() {
         let w = wrong(m);
         (*name, m, w.expect("an outline that is not sound"))
     });
+    let trays = read_trays(R);
+    let trayed = trayed(&trays);
     match wanted.as_str() {
         "--print" => {
             for (name, m, sides, v) in &worked {
                 print(name, m, &p1, sides, *v);
             }
+            trayed.print();
             for (name, m, w) in &wrong {
                 block(&format!("{name} move"), refused_block(m, w));
                 block(&format!("{name} edge"), edge_block(w));
@@ -1270,11 +1664,13 @@ fn main() {
             let moves = worked.iter().map(|(_, m, ..)| m);
             let all = moves.chain(refused.iter().map(|(_, m)| m));
             all.for_each(|m| println!("{}", m.line));
+            println!("{R}\n{}", corners_line(&trays));
         }
         "--answers" => {
             let moves = worked.iter().map(|(_, _, sides, v)| answer(sides, *v).0);
             let all = moves.chain(wrong.iter().map(|(.., w)| w.answer()));
             all.for_each(|answer| println!("{}", hex(&answer)));
+            println!("{0}\n{0}", hex(&trayed.answer()));
         }
         "--log" => LOG.iter().for_each(|(number, name)| {
             let m = read_any(named(name));

@@ -24,8 +24,11 @@ static uint8_t stack[STACK];
 static const char head[] = "030001"; /* what makes a line of a log of it */
 static uint8_t line[STONEFRUITLE_MOVE_ROOM], log_line[STONEFRUITLE_MOVE_ROOM + sizeof head], out[STONEFRUITLE_MOVE_ROOM];
 static size_t line_length, written;
-static uint8_t edge;
+static uint8_t edge, kind;
 static int64_t a[2 * CORNERS], b[2 * CORNERS], numbers[STONEFRUITLE_NUMBERS];
+static uint8_t rectangle_line[STONEFRUITLE_RECTANGLES_ROOM];
+static int64_t low_high_a[4], low_high_b[4], rectangle_numbers[STONEFRUITLE_RECTANGLES_NUMBERS];
+static const size_t rectangle_length = STONEFRUITLE_RECTANGLES_ROOM - 1;
 static const size_t count = 2 * CORNERS;
 static int64_t vax, vay, vbx, vby, limit;
 
@@ -45,7 +48,7 @@ static void call_write_move(void)
     stonefruitle_write_move(a, count, b, count, vax, vay, vbx, vby, limit, out, sizeof out, &written, &edge);
 }
 
-static void call_read_line(void) { stonefruitle_read_line(line, line_length, &edge); }
+static void call_read_line(void) { stonefruitle_read_line(line, line_length, &kind, &edge); }
 
 static void call_read_move(void) { stonefruitle_read_move(line, line_length, numbers, &edge); }
 
@@ -63,6 +66,26 @@ static void call_read_log(void)
     stonefruitle_read_log(log_line, line_length + strlen(head), &number, numbers, &edge);
 }
 
+static void call_answer_rectangle_line(void)
+{
+    stonefruitle_answer_line(rectangle_line, rectangle_length, out, sizeof out, &written, &edge);
+}
+
+static void call_answer_rectangles(void)
+{
+    stonefruitle_answer_rectangles(low_high_a, 4, low_high_b, 4, vax, vay, vbx, vby, limit, out, sizeof out, &written, &edge);
+}
+
+static void call_write_rectangles(void)
+{
+    stonefruitle_write_rectangles(low_high_a, 4, low_high_b, 4, vax, vay, vbx, vby, limit, out, sizeof out, &written, &edge);
+}
+
+static void call_read_rectangles(void)
+{
+    stonefruitle_read_rectangles(rectangle_line, rectangle_length, rectangle_numbers, &edge);
+}
+
 static void call_test_outline(void) { stonefruitle_test_outline(a, count, &edge); }
 
 static const struct {
@@ -72,6 +95,10 @@ static const struct {
     {"answer_line", call_answer_line}, {"answer_lists", call_answer_lists}, {"write_move", call_write_move},
     {"read_line", call_read_line},     {"read_move", call_read_move},       {"test_outline", call_test_outline},
     {"log_step", call_log_step},       {"read_log", call_read_log},
+    {"answer_line of rectangles", call_answer_rectangle_line},
+    {"answer_rectangles", call_answer_rectangles},
+    {"write_rectangles", call_write_rectangles},
+    {"read_rectangles", call_read_rectangles},
 };
 enum { FUNCTIONS = sizeof functions / sizeof functions[0] };
 
@@ -96,10 +123,32 @@ static size_t used(void (*call)(void))
 
 static size_t deepest[FUNCTIONS];
 
-/* Measures the stack of each function on the move that stands in the variables. */
+/* Low x, low y, high x, high y of what an outline takes up. */
+static void around(const int64_t *outline, int64_t *low_high)
+{
+    for (int axis = 0; axis < 2; axis++) {
+        int64_t low = outline[axis], high = outline[axis];
+        for (int k = 1; k < CORNERS; k++) {
+            int64_t n = outline[2 * k + axis];
+            low = n < low ? n : low;
+            high = n > high ? n : high;
+        }
+        low_high[axis] = low;
+        low_high[axis + 2] = high;
+    }
+}
+
+/* Measures the stack of each function on the move that stands in the variables, or on the rectangles around its outlines. */
 static void measure_stack(void)
 {
     size_t nothing = used(call_nothing);
+    around(a, low_high_a);
+    around(b, low_high_b);
+    if (stonefruitle_write_rectangles(low_high_a, 4, low_high_b, 4, vax, vay, vbx, vby, limit, rectangle_line,
+                                      sizeof rectangle_line, &written, &edge) != 0) {
+        fprintf(stderr, "costs: a rectangle is refused\n");
+        exit(1);
+    }
     memcpy(log_line, head, strlen(head));
     memcpy(log_line + strlen(head), line, line_length);
     for (int i = 0; i < FUNCTIONS; i++) {

@@ -4,7 +4,8 @@
  * tests/linked builds and runs it.
  *
  * Each line of a table is asked as a move line, as a line of a log, and where
- * its fields can be read as lists, through all eight functions.
+ * its fields can be read as lists, through all eight functions that know of
+ * outlines. Rectangles, whose edge is always 0, are in tests/rectangles.c.
  */
 #include <stdio.h>
 #include <string.h>
@@ -23,7 +24,7 @@ static const struct {
     /* P1 */
     {"010404000a00000000ffff00000000000000020000000200020000000200050000000700000007000200050002", 0, 0, {0, 0}, {0, 0}},
     {"0", 2, 0, {0, 0}, {0, 0}},
-    {"02", 3, 0, {0, 0}, {0, 0}},
+    {"04", 3, 0, {0, 0}, {0, 0}},
     {"01", 4, 0, {0, 0}, {0, 0}},
     /* A is the star, and the limit, a speed or a coordinate of B is out of range */
     {"01050427110000000000000000000a0000fff800060003fff700030009fff8fffa00000000000200000002000200000002", 5, 0, {8, 0}, {0, 0}},
@@ -38,7 +39,7 @@ static const struct {
 };
 
 static int failed;
-static uint8_t before, edge;
+static uint8_t before, edge, kind;
 
 /* One call returned this; it has to be the refusal, and the edge has to be that or be left alone. */
 static void expect(const char *call, const char *line, uint8_t returned, uint8_t refusal, uint8_t named)
@@ -92,7 +93,7 @@ static void ask_lines(const char *text, uint8_t refusal, uint8_t named)
     expect("answer_line", text, stonefruitle_answer_line(line, length, out, 45, &written, &edge), refusal, named);
     expect_line(text, out, written, refusal, named);
     expect("answer_line, 44", text, stonefruitle_answer_line(line, length, out, 44, &written, &edge), 1, 0);
-    expect("read_line", text, stonefruitle_read_line(line, length, &edge), refusal, named);
+    expect("read_line", text, stonefruitle_read_line(line, length, &kind, &edge), refusal, named);
     expect("read_move", text, stonefruitle_read_move(line, length, numbers, &edge), refusal, named);
     expect("read_log", text, stonefruitle_read_log(log_line, log_length, &number, numbers, &edge), refusal, named);
     /* In order, out of order, and without room. */

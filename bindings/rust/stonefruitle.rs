@@ -60,8 +60,49 @@ pub mod linked {
             written: *mut usize,
             edge: *mut u8,
         ) -> u8;
-        pub fn stonefruitle_read_line(line: *const u8, line_length: usize, edge: *mut u8) -> u8;
+        pub fn stonefruitle_answer_rectangles(
+            a: *const i64,
+            a_length: usize,
+            b: *const i64,
+            b_length: usize,
+            vax: i64,
+            vay: i64,
+            vbx: i64,
+            vby: i64,
+            limit: i64,
+            out: *mut u8,
+            out_length: usize,
+            written: *mut usize,
+            edge: *mut u8,
+        ) -> u8;
+        pub fn stonefruitle_write_rectangles(
+            a: *const i64,
+            a_length: usize,
+            b: *const i64,
+            b_length: usize,
+            vax: i64,
+            vay: i64,
+            vbx: i64,
+            vby: i64,
+            limit: i64,
+            out: *mut u8,
+            out_length: usize,
+            written: *mut usize,
+            edge: *mut u8,
+        ) -> u8;
+        pub fn stonefruitle_read_line(
+            line: *const u8,
+            line_length: usize,
+            kind: *mut u8,
+            edge: *mut u8,
+        ) -> u8;
         pub fn stonefruitle_read_move(
+            line: *const u8,
+            line_length: usize,
+            numbers: *mut i64,
+            edge: *mut u8,
+        ) -> u8;
+        pub fn stonefruitle_read_rectangles(
             line: *const u8,
             line_length: usize,
             numbers: *mut i64,
@@ -94,7 +135,7 @@ pub mod linked {
         ) -> u8;
     }
 
-    /// The two functions that take a move as numbers and write a line.
+    /// The four functions that take a move as numbers and write a line.
     pub type FromLists = unsafe extern "C" fn(
         *const i64,
         usize,
@@ -112,12 +153,23 @@ pub mod linked {
     ) -> u8;
 }
 
-/// The least room for an answer line and for a move line, 0a included.
+/// The least room for an answer line and for a move line of either kind, 0a included.
 pub const ANSWER_ROOM: usize = 45;
 pub const MOVE_ROOM: usize = 283;
+pub const RECTANGLES_ROOM: usize = 55;
 
-/// How many numbers a read move is.
+/// How many numbers a read move is, of outlines and of rectangles.
 pub const NUMBERS: usize = 71;
+pub const RECTANGLES_NUMBERS: usize = 13;
+
+/// The kinds of a move line.
+#[derive(Clone, Copy, Debug, PartialEq, Eq)]
+pub enum Kind {
+    /// 01: two outlines of 3 to 16 corners.
+    Outlines,
+    /// 02: two upright rectangles.
+    Rectangles,
+}
 
 /// Why a move is turned away, with its number. Of several that apply, the first is given.
 #[derive(Clone, Copy, Debug, PartialEq, Eq, PartialOrd, Ord)]
@@ -126,9 +178,11 @@ pub enum Refusal {
     Room,
     /// 2: a line that is empty, odd in length, over 282 digits (288 in a log), or with another character than 0-9 and a-f.
     Digits,
-    /// 3: a line whose first byte is not 01; in a log, not 03, or a fourth byte is there and is not 01.
+    /// 3: a line whose first byte is neither 01 nor 02, or of another kind than is read; in a log, not 03, or a fourth byte is
+    /// there and is not 01.
     Kind,
-    /// 4: a count of corners outside 3 to 16, a list of odd length, or a line of another length than its counts ask for.
+    /// 4: a count of corners outside 3 to 16, a list of odd length, or a line of another length than its counts ask for; of
+    /// rectangles, a list not of four numbers or a line not of 27 bytes.
     Count,
     /// 5: the limit is outside 0 to 10,000.
     Limit,
@@ -137,9 +191,10 @@ pub enum Refusal {
     /// 7: a coordinate is outside -10,000 to 10,000.
     Place,
     /// 8: the first outline is not sound. This is its lowest edge that has a corner, other than its two ends, not strictly to
-    /// its left; edge i runs from corner i to the next, the last to corner 0.
+    /// its left; edge i runs from corner i to the next, the last to corner 0. Of a rectangle, whose low is then not below its
+    /// high in x or in y, it is 0.
     First(u8),
-    /// 9: the second outline is not sound, likewise.
+    /// 9: the second outline or rectangle, likewise.
     Second(u8),
     /// 10: a line of a log whose number does not follow the kept one.
     Order,
@@ -201,7 +256,7 @@ impl fmt::Display for Refusal {
             Refusal::Room => "too few bytes lent for the line",
             Refusal::Digits => "the line is not one of whole hexadecimal bytes",
             Refusal::Kind => "the line is not a move",
-            Refusal::Count => "a count of corners is out of range or does not fit",
+            Refusal::Count => "a count of corners or numbers is out of range or does not fit",
             Refusal::Limit => "the limit is out of range",
             Refusal::Speed => "a velocity is out of range",
             Refusal::Place => "a coordinate is out of range",
@@ -257,6 +312,66 @@ impl ReadMove {
         Move {
             a: &self.a,
             b: &self.b,
+            velocity_a: self.velocity_a,
+            velocity_b: self.velocity_b,
+            limit: self.limit,
+        }
+    }
+}
+
+/// A rectangle that stands square to the bed: two opposite corners.
+#[derive(Clone, Copy, Debug, PartialEq, Eq)]
+pub struct Rectangle {
+    pub low: (i64, i64),
+    pub high: (i64, i64),
+}
+
+impl Rectangle {
+    /// Low x, low y, high x, high y, as the library takes it.
+    pub fn numbers(&self) -> [i64; 4] {
+        [self.low.0, self.low.1, self.high.0, self.high.1]
+    }
+
+    /// The coordinates x, y, x, y, .. of the four corners, from low-low counterclockwise: the outline that has the same answer.
+    pub fn outline(&self) -> [i64; 8] {
+        let ((x, y), (u, v)) = (self.low, self.high);
+        [x, y, u, y, u, v, x, v]
+    }
+
+    fn of_numbers(numbers: &[i64]) -> Rectangle {
+        Rectangle {
+            low: (numbers[0], numbers[1]),
+            high: (numbers[2], numbers[3]),
+        }
+    }
+}
+
+/// A move of two rectangles, handed in or read from a line.
+#[derive(Clone, Copy, Debug, PartialEq, Eq)]
+pub struct RectangleMove {
+    pub a: Rectangle,
+    pub b: Rectangle,
+    pub velocity_a: (i64, i64),
+    pub velocity_b: (i64, i64),
+    pub limit: i64,
+}
+
+impl RectangleMove {
+    fn of_numbers(numbers: &[i64; RECTANGLES_NUMBERS]) -> RectangleMove {
+        RectangleMove {
+            a: Rectangle::of_numbers(&numbers[5..9]),
+            b: Rectangle::of_numbers(&numbers[9..13]),
+            velocity_a: (numbers[1], numbers[2]),
+            velocity_b: (numbers[3], numbers[4]),
+            limit: numbers[0],
+        }
+    }
+
+    /// The same move with other lists for its rectangles.
+    fn with<'a>(&self, a: &'a [i64], b: &'a [i64]) -> Move<'a> {
+        Move {
+            a,
+            b,
             velocity_a: self.velocity_a,
             velocity_b: self.velocity_b,
             limit: self.limit,
@@ -393,7 +508,7 @@ pub fn log_step(kept: Kept, line: &[u8]) -> LogStep {
     }
 }
 
-/// The answer to a move line, which stands without its 0a.
+/// The answer to a move line of either kind, which stands without its 0a.
 pub fn answer_line(line: &[u8]) -> Result<Answer, Refusal> {
     let mut out = [0; ANSWER_ROOM];
     let written = answer_line_into(line, &mut out);
@@ -407,6 +522,13 @@ pub fn answer_lists(m: &Move) -> Result<Answer, Refusal> {
     said(&out, written)
 }
 
+/// The answer to a move of two rectangles.
+pub fn answer_rectangles(m: &RectangleMove) -> Result<Answer, Refusal> {
+    let mut out = [0; ANSWER_ROOM];
+    let written = answer_rectangles_into(m, &mut out);
+    said(&out, written)
+}
+
 /// The line of a move, with its 0a.
 pub fn write_move(m: &Move) -> Result<Vec<u8>, Refusal> {
     let mut out = [0; MOVE_ROOM];
@@ -417,20 +539,44 @@ pub fn write_move(m: &Move) -> Result<Vec<u8>, Refusal> {
     }
 }
 
-/// Whether a line, which stands without its 0a, is a move. `Ok` says nothing of whether the outlines meet.
-pub fn read_line(line: &[u8]) -> Result<(), Refusal> {
-    let mut edge = 0;
-    // The library reads `line.len()` bytes at the pointer, writes at most the edge, and keeps nothing.
-    let refusal = unsafe { stonefruitle_read_line(line.as_ptr(), line.len(), &mut edge) };
-    accepted(refusal, edge)
+/// The line of a move of two rectangles, with its 0a.
+pub fn write_rectangles(m: &RectangleMove) -> Result<Vec<u8>, Refusal> {
+    let mut out = [0; RECTANGLES_ROOM];
+    let written = write_rectangles_into(m, &mut out);
+    match written.refusal {
+        Some(refusal) => Err(refusal),
+        None => Ok(out[..written.bytes].to_vec()),
+    }
 }
 
-/// The move of a line, which stands without its 0a.
+/// Of which kind a line, which stands without its 0a, is. `Ok` says nothing of whether the outlines meet.
+pub fn read_line(line: &[u8]) -> Result<Kind, Refusal> {
+    let (mut kind, mut edge) = (0, 0);
+    // The library reads `line.len()` bytes at the pointer, writes at most the kind and the edge, and keeps nothing.
+    let refusal =
+        unsafe { stonefruitle_read_line(line.as_ptr(), line.len(), &mut kind, &mut edge) };
+    accepted(refusal, edge).map(|()| match kind {
+        1 => Kind::Outlines,
+        2 => Kind::Rectangles,
+        _ => panic!("a line that is accepted is of kind 1 or 2"),
+    })
+}
+
+/// The move of a line of kind 01, which stands without its 0a.
 pub fn read_move(line: &[u8]) -> Result<ReadMove, Refusal> {
     let mut numbers = [0; NUMBERS];
     match read_move_into(line, &mut numbers) {
         Some(refusal) => Err(refusal),
         None => Ok(ReadMove::of_numbers(&numbers)),
+    }
+}
+
+/// The move of a line of kind 02, which stands without its 0a.
+pub fn read_rectangles(line: &[u8]) -> Result<RectangleMove, Refusal> {
+    let mut numbers = [0; RECTANGLES_NUMBERS];
+    match read_rectangles_into(line, &mut numbers) {
+        Some(refusal) => Err(refusal),
+        None => Ok(RectangleMove::of_numbers(&numbers)),
     }
 }
 
@@ -452,8 +598,21 @@ pub fn test_outline(coordinates: &[i64]) -> Result<(), Refusal> {
     accepted(refusal, edge)
 }
 
-/// The move of a line as 71 numbers, all of which are written: limit, velocity of A, velocity of B, count of A, count of B,
-/// the coordinates of A's sixteen places, those of B's. Where the line is refused they are all zero.
+/// The move of a line of kind 02 as 13 numbers, all of which are written: limit, velocity of A, velocity of B, low x, low y,
+/// high x, high y of A, those of B. Where the line is refused they are all zero.
+pub fn read_rectangles_into(
+    line: &[u8],
+    numbers: &mut [i64; RECTANGLES_NUMBERS],
+) -> Option<Refusal> {
+    let mut edge = 0;
+    let refusal = unsafe {
+        stonefruitle_read_rectangles(line.as_ptr(), line.len(), numbers.as_mut_ptr(), &mut edge)
+    };
+    Refusal::returned(refusal, edge)
+}
+
+/// The move of a line of kind 01 as 71 numbers, all of which are written: limit, velocity of A, velocity of B, count of A,
+/// count of B, the coordinates of A's sixteen places, those of B's. Where the line is refused they are all zero.
 pub fn read_move_into(line: &[u8], numbers: &mut [i64; NUMBERS]) -> Option<Refusal> {
     let mut edge = 0;
     let refusal = unsafe {
@@ -511,7 +670,8 @@ pub fn log_step_into(kept: Kept, line: &[u8], out: &mut [u8]) -> LogWritten {
     }
 }
 
-/// The answer line to a move line, into a lent buffer. `Room` writes nothing; the other refusals write the refusal line.
+/// The answer line to a move line of either kind, into a lent buffer. `Room` writes nothing; the other refusals write the
+/// refusal line.
 pub fn answer_line_into(line: &[u8], out: &mut [u8]) -> Written {
     let (mut bytes, mut edge) = (0, 0);
     // The library reads `line.len()` bytes, writes at most `out.len()` bytes, one count and one edge, and keeps nothing;
@@ -540,6 +700,18 @@ pub fn answer_lists_into(m: &Move, out: &mut [u8]) -> Written {
 /// The line of a move, into a lent buffer. Any refusal writes nothing.
 pub fn write_move_into(m: &Move, out: &mut [u8]) -> Written {
     into(stonefruitle_write_move, m, out)
+}
+
+/// The answer line to a move of two rectangles, into a lent buffer, as that to a move line.
+pub fn answer_rectangles_into(m: &RectangleMove, out: &mut [u8]) -> Written {
+    let (a, b) = (m.a.numbers(), m.b.numbers());
+    into(stonefruitle_answer_rectangles, &m.with(&a, &b), out)
+}
+
+/// The line of a move of two rectangles, into a lent buffer. Any refusal writes nothing.
+pub fn write_rectangles_into(m: &RectangleMove, out: &mut [u8]) -> Written {
+    let (a, b) = (m.a.numbers(), m.b.numbers());
+    into(stonefruitle_write_rectangles, &m.with(&a, &b), out)
 }
 
 fn into(call: FromLists, m: &Move, out: &mut [u8]) -> Written {

@@ -1,6 +1,6 @@
 //! Tests of the linked library through `stonefruitle.rs`: the paper's twelve cases, many moves and logs compared with the
-//! independent program, and the lent bytes that must stay, the place for an edge among them. `tests/linked` builds and runs
-//! them.
+//! independent program, and the lent bytes that must stay, the places for a kind and an edge among them. Rectangles are in
+//! `tests_rectangles.rs`. `tests/linked` builds and runs them.
 
 #[allow(dead_code)]
 #[path = "../../independent/src/checker.rs"]
@@ -15,12 +15,20 @@ mod generate;
 #[path = "../../independent/src/log.rs"]
 mod log;
 #[allow(dead_code)]
+#[path = "../../independent/src/rectangle.rs"]
+mod rectangle;
+#[allow(dead_code)]
 #[path = "../../independent/src/runs.rs"]
 mod runs;
+mod tests_rectangles;
+#[allow(dead_code)]
+#[path = "../../independent/src/trays.rs"]
+mod trays;
 
 use checker::{lowest_bad_edge, point, verdict, Point, Verdict};
 use generate::{Rng, Set, AT_ZERO, BAD_EDGES, BASE};
 use runs::{Log, LOG, LOG_BAD_EDGES};
+use std::cell::Cell;
 use stonefruitle::linked::*;
 use stonefruitle::*;
 
@@ -244,7 +252,8 @@ fn twelve_cases_from_lines() {
             case.answer.err(),
         );
         assert_eq!(answer_line(line), case.answer, "{}", case.name);
-        assert_eq!(read_line(line).err(), case.answer.err(), "{}", case.name);
+        let kind = case.answer.map(|_| Kind::Outlines);
+        assert_eq!(read_line(line), kind, "{}", case.name);
         match read_move(line) {
             Ok(read) => assert_eq!(read.as_move(), case.asked(), "{}", case.name),
             Err(refusal) => assert_eq!(Some(refusal), case.answer.err(), "{}", case.name),
@@ -516,6 +525,30 @@ fn check_lists(what: &str, m: &Lists, extra: usize) -> Result<Verdict, frame::Re
     answer
 }
 
+/// Holds every call that takes a bare line to what is expected.
+fn check_line(what: &str, line: &[u8], extra: usize) -> Result<Verdict, frame::Refusal> {
+    let answer = frame::answer(line);
+    let refusal = refusal_of(&answer);
+    let (written, out) = asked(|out| answer_line_into(line, out), ANSWER_ROOM + extra);
+    assert_answered(what, written, &out, &frame::write_answer(&answer), refusal);
+    assert_eq!(answer_line(line).err(), refusal, "{what}");
+    let kind = match frame::read_line(line) {
+        Ok(frame::Asked::Outlines(_)) => Ok(Kind::Outlines),
+        Ok(frame::Asked::Rectangles(_)) => Ok(Kind::Rectangles),
+        Err(refusal) => Err(refused(refusal)),
+    };
+    assert_eq!(read_line(line), kind, "{what}");
+
+    let read = frame::read_move(line);
+    let mut numbers = [i64::MIN; NUMBERS];
+    let returned = read_move_into(line, &mut numbers);
+    assert_eq!(returned, refusal_of(&read), "{what}");
+    assert_eq!(numbers, expected_numbers(read.as_ref().ok()), "{what}");
+    tests_rectangles::check_read(what, line, extra);
+    check_edges_of_line(what, line, refusal, refusal_of(&read), extra);
+    answer
+}
+
 // ---------------------------------------------------------------------------
 // Many moves
 
@@ -526,21 +559,10 @@ fn check_lines(set: Set) -> [u64; 10] {
         let class = generate::class_of_place(set, place);
         let line = generate::line(SEED, place, class);
         let what = format!("seed {SEED}, place {place}, {class:?}: {}", shown(&line));
-        let answer = frame::answer(&line);
+        let extra = place as usize % 40;
+        let answer = check_line(&what, &line, extra);
         let refusal = refusal_of(&answer);
         counts[place_of(refusal)] += 1;
-
-        let extra = place as usize % 40;
-        let (written, out) = asked(|out| answer_line_into(&line, out), ANSWER_ROOM + extra);
-        assert_answered(&what, written, &out, &frame::write_answer(&answer), refusal);
-        assert_eq!(read_line(&line).err(), refusal, "{what}");
-        assert_eq!(answer_line(&line).err(), refusal, "{what}");
-        check_edges_of_line(&what, &line, refusal, extra);
-
-        let read = frame::read_move(&line);
-        let mut numbers = [i64::MIN; NUMBERS];
-        assert_eq!(read_move_into(&line, &mut numbers), refusal, "{what}");
-        assert_eq!(numbers, expected_numbers(read.as_ref().ok()), "{what}");
 
         if let Some(m) = fields(&line, refusal) {
             let lists = Lists::of(&m);
@@ -553,7 +575,7 @@ fn check_lines(set: Set) -> [u64; 10] {
     counts
 }
 
-/// The move of a line in which nothing is wrong but perhaps an outline.
+/// The move of a line of kind 01 in which nothing is wrong but perhaps an outline.
 fn fields(line: &[u8], refusal: Option<Refusal>) -> Option<checker::Move> {
     match refusal {
         None | Some(Refusal::First(_) | Refusal::Second(_)) => {
@@ -1003,7 +1025,14 @@ fn assert_edge(what: &str, refusal: Option<Refusal>, turn: usize, call: impl Fn(
     assert_eq!(edge, named.unwrap_or(before), "{what}: the edge");
 }
 
-fn check_edges_of_line(what: &str, line: &[u8], refusal: Option<Refusal>, turn: usize) {
+/// `of_kind_01` is what the reader of that kind refuses it with.
+fn check_edges_of_line(
+    what: &str,
+    line: &[u8],
+    refusal: Option<Refusal>,
+    of_kind_01: Option<Refusal>,
+    turn: usize,
+) {
     let (at, length) = (line.as_ptr(), line.len());
     for (room, refusal) in [
         (ANSWER_ROOM, refusal),
@@ -1014,10 +1043,18 @@ fn check_edges_of_line(what: &str, line: &[u8], refusal: Option<Refusal>, turn: 
             stonefruitle_answer_line(at, length, out.as_mut_ptr(), room, &mut written, edge)
         });
     }
+    // The kind is written where nothing is refused, and left alone otherwise.
+    let before = [BEFORE, 0, 1, 2][turn / 4 % 4];
+    let kind = Cell::new(before);
     assert_edge(what, refusal, turn, |edge| unsafe {
-        stonefruitle_read_line(at, length, edge)
+        stonefruitle_read_line(at, length, kind.as_ptr(), edge)
     });
-    assert_edge(what, refusal, turn, |edge| unsafe {
+    let expected = match refusal {
+        Some(_) => before,
+        None => line[1] - b'0',
+    };
+    assert_eq!(kind.get(), expected, "{what}: the kind");
+    assert_edge(what, of_kind_01, turn, |edge| unsafe {
         let mut numbers = [0; NUMBERS];
         stonefruitle_read_move(at, length, numbers.as_mut_ptr(), edge)
     });
@@ -1029,27 +1066,35 @@ fn check_edges_of_lists(what: &str, m: &Lists, refusal: Option<Refusal>, turn: u
         (stonefruitle_write_move as FromLists, MOVE_ROOM),
     ] {
         for (room, refusal) in [(room, refusal), (room - 1, Some(Refusal::Room))] {
-            assert_edge(what, refusal, turn, |edge| unsafe {
-                let (mut out, mut written) = ([0; MOVE_ROOM], 0);
-                let ((vax, vay), (vbx, vby)) = (m.velocity_a, m.velocity_b);
-                call(
-                    m.a.as_ptr(),
-                    m.a.len(),
-                    m.b.as_ptr(),
-                    m.b.len(),
-                    vax,
-                    vay,
-                    vbx,
-                    vby,
-                    m.limit,
-                    out.as_mut_ptr(),
-                    room,
-                    &mut written,
-                    edge,
-                )
+            assert_edge(what, refusal, turn, |edge| {
+                called(call, m, &mut vec![0; room], edge).0
             });
         }
     }
+}
+
+/// A call that takes lists: what it returns, and how many bytes it says that it wrote.
+fn called(call: FromLists, m: &Lists, out: &mut [u8], edge: *mut u8) -> (u8, usize) {
+    let mut written = 77;
+    let ((vax, vay), (vbx, vby)) = (m.velocity_a, m.velocity_b);
+    let returned = unsafe {
+        call(
+            m.a.as_ptr(),
+            m.a.len(),
+            m.b.as_ptr(),
+            m.b.len(),
+            vax,
+            vay,
+            vbx,
+            vby,
+            m.limit,
+            out.as_mut_ptr(),
+            out.len(),
+            &mut written,
+            edge,
+        )
+    };
+    (returned, written)
 }
 
 fn check_edges_of_step(what: &str, kept: Kept, line: &[u8], refusal: Option<Refusal>, turn: usize) {
