@@ -41,7 +41,7 @@ use Rattle.verdict.proofs.SideSpans.{spans-length}
 use Rattle.verdict.proofs.FitSpans.{sideCount-is, spans-some, spans-made}
 use Rattle.showing.proofs.ShowingLaws.{moved-length}
 use Rattle.moveline.specs.Reading.{refusalOfLine, moveOfLine}
-use Rattle.frame.specs.AnswerOfLine.{isSecond, answerOfLine}
+use Rattle.frame.specs.AnswerOfLine.{answerOfLine}
 use Rattle.frame.specs.Sayable.{Sayable, SayableBearing, SayableShowing}
 use Rattle.moveline.proofs.RoundTrip.{accepted}
 use Rattle.rectangle.specs.Rectangle.{fourCorners}
@@ -51,6 +51,7 @@ use Rattle.rectangle.specs.Reading as second
 use Rattle.rectangle.specs.declared.RectangleMove.{RectangleMove}
 use Rattle.rectangle.proofs.Refusing as rectangle-laws
 use Rattle.rectangle.proofs.FourAccepted.{four-accepted}
+use Rattle.rectangleline.specs.Reading.{isSecond}
 use Rattle.rectangleline.specs.Reading as lines
 use Rattle.rectangleline.proofs.RoundTrip as round-trip
 

@@ -1,25 +1,19 @@
 -- The answer to a bare line, which stands without its 0a, and which kind of move it is. A line whose first byte is 02 is read as kind 02, any other as kind 01.
---   isSecond l        the first byte of the line is 02
 --   answerOfLine l    its refusal, or the verdict on its move
 --   kindOfLine l      its refusal, or the kind of its move
-use mathlib.Core.Bool.{Bool, cond}
+use mathlib.Core.Bool.{cond}
 use mathlib.Core.List.{List}
 use Prim.Native.Nat.{ℕ}
-use lib.Dec.{eqb}
-use Rattle.hex.specs.Bytes.{byteAt}
-use Rattle.hex.specs.Hex.{unhex}
 use Rattle.outline.specs.Refusal.{isNone}
 use Rattle.outline.specs.declared.Refusal.{Refusal}
 use Rattle.verdict.specs.Answer.{answerUnless}
 use Rattle.verdict.specs.declared.Answer.{Answer}
 use Rattle.rectangle.specs.Reading as rectangles
 use Rattle.moveline.specs.Reading.{refusalOfLine, moveOfLine, readingOfLine}
+use Rattle.rectangleline.specs.Reading.{isSecond}
 use Rattle.rectangleline.specs.Reading as second
 use Rattle.frame.specs.declared.Kind.{Kind}
 use Rattle.frame.specs.declared.Kind.the-variants.{Outlines, Rectangles, Refused}
-
-abbrev pub isSecond : List ℕ → Bool
-isSecond l = eqb (byteAt (unhex l) 0) 2
 
 abbrev pub answerOfOutlines : List ℕ → Answer
 answerOfOutlines l = answerUnless (refusalOfLine l) (moveOfLine l)

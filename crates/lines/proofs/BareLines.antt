@@ -1,4 +1,4 @@
--- Bare lines as a step. A line of more than 282 bytes is refused. A refusal has seven or nine bytes, that of an empty line seven, any answer at most 45, and a line with another answer than a refusal has at least 74 bytes, so an answer has at most seven bytes for each byte of its line and its 0a. As nothing is kept, the answers are those of the lines one by one.
+-- Bare lines as a step. A line of more than 282 bytes is refused. A refusal has seven or nine bytes, that of an empty line seven, any answer at most 45, and a line with another answer than a refusal has at least 54 bytes, so an answer has at most seven bytes for each byte of its line and its 0a. As nothing is kept, the answers are those of the lines one by one.
 use mathlib.Core.Path.{_≡_, refl, sym, _∙_, ap}
 use mathlib.Core.Bool.{Bool, true, false, _&&_}
 use mathlib.Core.List.{List, [], _∷_, _++_, flatMap}
@@ -18,10 +18,11 @@ use Rattle.hex.specs.Hex.{hex}
 use Rattle.moveline.specs.MoveFrame.{moveFrame}
 use Rattle.frame.specs.AnswerFrame.{answerFrame, answerLine}
 use Rattle.moveline.specs.Reading.{refusalOfLine, moveOfLine}
-use Rattle.frame.specs.AnswerOfLine.{isSecond, answerOfOutlines, answerOfRectangles, answerOfLine}
+use Rattle.frame.specs.AnswerOfLine.{answerOfOutlines, answerOfRectangles, answerOfLine}
 use Rattle.whole.proofs.Flags.{cond-by}
 use Rattle.rectangle.specs.Refusal as rectangle
 use Rattle.rectangle.specs.Reading as rectangles
+use Rattle.rectangleline.specs.Reading.{isSecond}
 use Rattle.rectangleline.specs.Reading as second
 use Rattle.rectangleline.proofs.RoundTrip as second-laws
 use Rattle.hex.proofs.HexText.{hex-length}

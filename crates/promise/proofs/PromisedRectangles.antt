@@ -2,7 +2,8 @@
 --   promise-rectangles                 of the verdict on an accepted move of rectangles
 --   promise-rectangle-lists            of the answer to two lists of four that are accepted
 --   promise-rectangle-line             of the answer to an accepted line of kind 02
---   contact-exactly-rectangle-line     it is a contact exactly when the outlines of the four corners meet at some time from 0 to the limit
+--   contact-exactly-rectangle-lists    it is a contact exactly when the outlines of the four corners meet at some time from 0 to the limit; so is
+--   contact-exactly-rectangle-line     the answer to an accepted line
 --   as-four-corners                    that answer is the answer to the line of kind 01 with these corners
 use mathlib.Core.Path.{_≡_, sym, ap, _∙_, subst}
 use mathlib.Core.Logic.{_↔_}
@@ -44,6 +45,9 @@ pub promise-rectangle-lists : (xs ys : List ℤ) (va vb : Corner) (T : ℤ) → 
 promise-rectangle-lists xs ys va vb T e =
     let m = moveOfLists xs ys va vb T in
     subst (Promise (fourCorners m)) (sym (answered (refusalOfLists xs ys va vb T) m e)) (promise-rectangles m (lists-accepted xs ys va vb T e))
+
+pub contact-exactly-rectangle-lists : (xs ys : List ℤ) (va vb : Corner) (T : ℤ) → refusalOfLists xs ys va vb T ≡ 0 → ((x : Evidence) × (rectangles.answerOfLists xs ys va vb T ≡ Contact x)) ↔ MeetInTime (fourCorners (moveOfLists xs ys va vb T))
+contact-exactly-rectangle-lists xs ys va vb T e = contact-meets (fourCorners (moveOfLists xs ys va vb T)) (rectangles.answerOfLists xs ys va vb T) (promise-rectangle-lists xs ys va vb T e)
 
 module _ (l : List ℕ) (e : refusalOfLine l ≡ 0) where
   line-answered : answerOfLine l ≡ verdict (fourCorners (moveOfLine l))

@@ -8,6 +8,7 @@
 --   accepted         the move of an accepted line is accepted
 --   line-first       its first byte is 02
 --   line-length      it has 54 digits
+--   line-unbroken    it has no byte 0a
 use mathlib.Core.Path.{_≡_, refl, sym, ap, _∙_}
 use mathlib.Core.Bool.{not}
 use mathlib.Core.List.{List, [], _∷_, _++_, append-nil}
@@ -17,11 +18,12 @@ use lib.Dec.{eqb}
 use lib.ListN.{length, drop}
 use lib.Seq.{drop-cons, drop-length}
 use borrow.Author.Tests.{eqb-true, eq-eqb, not-false}
+use Rattle.whole.specs.Member.{Mem}
 use Rattle.hex.specs.Bytes.{bytes2, byteAt, numberAt}
 use Rattle.hex.specs.Hex.{hex, unhex}
 use Rattle.hex.specs.Text.{textual}
 use Rattle.hex.proofs.ByteLists.{Bytes}
-use Rattle.hex.proofs.HexText.{unhex-hex, unhex-length, hex-digits, hex-length, hex-unhex, unhex-bytes}
+use Rattle.hex.proofs.HexText.{unhex-hex, unhex-length, hex-digits, hex-length, digits-unbroken, hex-unhex, unhex-bytes}
 use Rattle.hex.proofs.Texts.{Textual, textual-yes, textual-true}
 use Rattle.outline.specs.Refusal.{firstThatApplies}
 use Rattle.outline.proofs.Reasons.{firstThatApplies-rest}
@@ -127,6 +129,9 @@ accepted l e = accepted-yes l e .move
 
 pub line-first : (l : List ℕ) → refusalOfLine l ≡ 0 → byteAt (unhex l) 0 ≡ 2
 line-first l e = accepted-yes l e .first
+
+pub line-unbroken : (l : List ℕ) → refusalOfLine l ≡ 0 → ¬ Mem 10 l
+line-unbroken l e = digits-unbroken l (accepted-yes l e .text .digital)
 
 pub line-length : (l : List ℕ) → refusalOfLine l ≡ 0 → length l ≡ 54
 line-length l e = let r = accepted-yes l e in omega (arith, r .size, unhex-length l, r .text .even)

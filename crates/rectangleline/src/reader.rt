@@ -1,12 +1,9 @@
 // Moves of rectangles out of lines.
 ghost use mathlib.Core.Path.{_≡_};
 ghost use Prim.Native.Nat.{_≤_};
-ghost use lib.Dec.{eqb};
 ghost use lib.ListN.{length};
-ghost use Rattle.hex.specs.Hex.{unhex};
-ghost use Rattle.hex.specs.Bytes.{byteAt};
 ghost use Rattle.rectangleline.specs.RectangleFrame.{moveOfFrame};
-ghost use Rattle.rectangleline.specs.Reading.{readingOfFrame, readingOfLine};
+ghost use Rattle.rectangleline.specs.Reading.{isSecond, readingOfFrame, readingOfLine};
 use moveline::pairs;
 use outline::Refusal;
 use rectangle::Rectangle;
@@ -16,7 +13,7 @@ use rectangle::lists;
 
 // Whether a line starts with the byte 02. The other digits are not looked at.
 pub fn is_second(line: &[u8]) -> bool
-    ensures { λ r. ⌜ r ≡ eqb (byteAt (unhex (now (line .entry))) 0) 2 ⌝ }
+    ensures { λ r. ⌜ r ≡ isSecond (now (line .entry)) ⌝ }
 {
     if line.len() < 2 {
         return false;

@@ -16,8 +16,9 @@ use Rattle.moves.proofs.Carrying.{carried-number}
 use Rattle.moves.proofs.Listed.{reading-refusal}
 use Rattle.moveline.specs.Reading.{refusalOfLine, moveOfLine, readingOfLine}
 use Rattle.rectangle.proofs.Refusing as rectangle-laws
+use Rattle.rectangleline.specs.Reading.{isSecond}
 use Rattle.rectangleline.specs.Reading as second
-use Rattle.frame.specs.AnswerOfLine.{isSecond, kindUnless, kindOfLine}
+use Rattle.frame.specs.AnswerOfLine.{kindUnless, kindOfLine}
 use Rattle.frame.specs.declared.Written.{Written}
 use Rattle.frame.specs.declared.Kind.{Kind}
 use Rattle.frame.specs.declared.Kind.the-variants.{Outlines, Rectangles}

@@ -22,7 +22,9 @@ use Rattle.moveline.proofs.RoundTrip.{accepted}
 use Rattle.log.specs.LogLine.{refusalOfLog, numberOf, moveOf, entryUnless, entryOf}
 use Rattle.log.proofs.Reading.{entry-refused}
 use Rattle.log.proofs.Stepping.{accepted-move}
-use Rattle.stonefruitle_c.specs.Numbers.{coordinates, heading, numbers}
+use Rattle.rectangle.proofs.Refusing as rectangle-laws
+use Rattle.rectangleline.specs.Reading as second
+use Rattle.stonefruitle_c.specs.Numbers.{coordinates, heading, numbers, rectangleNumbers}
 
 -- ---- one outline's coordinates
 pub coordinates-x : (A : List Corner) (k : ℕ) → getD (coordinates A) (2 * k) (pos 0) ≡ corner A k .x
@@ -87,6 +89,10 @@ line-kept l = reading-kept (refusalOfLine l) (moveOfLine l) (accepted l)
 
 pub refused-zeros : (l : List ℕ) → refusalOfLine l ≢ 0 → numbers (readingOfLine l .held) ≡ replicate 71 (pos 0)
 refused-zeros l n = reading-zeros (refusalOfLine l) (moveOfLine l) n
+
+-- ---- the move of a line of kind 02
+pub refused-rectangle-zeros : (l : List ℕ) → second.refusalOfLine l ≢ 0 → rectangleNumbers (second.readingOfLine l .held) ≡ replicate 13 (pos 0)
+refused-rectangle-zeros l n = ap (λ x. rectangleNumbers (x .held)) (rectangle-laws.reading-some (second.refusalOfLine l) (second.moveOfLine l) n)
 
 -- ---- the number and the move of a log line
 pub log-kept : (l : List ℕ) → Kept (entryOf l .reading .held .a) × Kept (entryOf l .reading .held .b)

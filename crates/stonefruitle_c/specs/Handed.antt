@@ -1,4 +1,4 @@
--- What is handed out of a refusal, as two values: its number, 0 for none, and the edge that it carries.
+-- What is handed out of a refusal, as two values: its number, 0 for none, and the edge that it carries; and of the kind of a line.
 --   edgeOr x was              the edge that x carries; where it carries none, what was there
 --   Hands x r was edge        a call with the refusal x returns its number r and leaves `edge` where `was` stood
 --   HandsOut w r bytes was edge    the same, with how many bytes were written

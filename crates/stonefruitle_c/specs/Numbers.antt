@@ -1,4 +1,4 @@
--- The 71 numbers of a move as it is held: limit, velocity of A, velocity of B, count of A, count of B, the coordinates of A's sixteen places, those of B's.
+-- A move as numbers. The 71 of a move as it is held: limit, velocity of A, velocity of B, count of A, count of B, the coordinates of A's sixteen places, those of B's.
 --   coordinates A    the coordinates x, y, x, y, .. of the corners A
 --   heading m        the seven numbers before the coordinates
 --   numbers m        all of them; of a refused line's move they are all zero
