@@ -7,13 +7,14 @@ use Prim.Native.Nat.{ℕ, suc, _+_}
 use native.Mathlib.Omega.{arith}
 use lib.IntN.{ℤ, pos, _+ℤ_, _-ℤ_, _*ℤ_}
 use lib.ListN.{length}
-use lib.Signed.{_≤ℤ_}
+use lib.Signed.{_≤ℤ_, _<ℤ_}
 use Rattle.whole.specs.Member.{Mem}
 use Rattle.whole.proofs.Ring.{reps, by-ring}
-use Rattle.whole.proofs.Linear.{ints, lin≤, ≤lin}
-use Rattle.whole.proofs.Order.{mul-nonneg, nonneg-sub}
+use Rattle.whole.proofs.Linear.{ints, lin≤, ≤lin, lin<, <lin}
+use Rattle.whole.proofs.Order.{mul-nonneg, nonneg-sub, <-le}
 use Rattle.plane.specs.Point.{origin, plus, scaled, dot}
 use Rattle.plane.specs.CommonPoint.{total, weighted}
+use Rattle.plane.specs.InnerPoint.{AllAbove}
 use Rattle.plane.specs.declared.Corner.{Corner}
 use Rattle.plane.proofs.Products.{corner-same, coords, dot-plus, dot-scaled}
 
@@ -74,6 +75,19 @@ low-step k a s t m h ha hs =
     let p = lin≤ ρ (search reps depth 12) tt (mul-nonneg k (a -ℤ m) h (nonneg-sub m a ha)) in
     ≤lin ρ (search reps depth 12) tt (omega (arith, p, lin≤ ρ (search reps depth 12) tt hs))
 
+-- strictly, where this corner is above the bound and has weight, or where the sum so far is
+here-step : (k a s t m : ℤ) → pos 0 <ℤ k → m <ℤ a → (t *ℤ m) ≤ℤ s → ((k +ℤ t) *ℤ m) <ℤ (k *ℤ a +ℤ s)
+here-step k a s t m h ha hs =
+    let ρ = k ∷ a ∷ s ∷ t ∷ m ∷ [] in
+    let others = low-step (k -ℤ pos 1) a s t m (≤lin ρ (search reps depth 12) tt (omega (arith, lin< ρ (search reps depth 12) tt h))) (<-le m a ha) hs in
+    <lin ρ (search reps depth 12) tt (omega (arith, lin< ρ (search reps depth 12) tt ha, lin≤ ρ (search reps depth 12) tt others))
+
+there-step : (k a s t m : ℤ) → pos 0 ≤ℤ k → m ≤ℤ a → (t *ℤ m) <ℤ s → ((k +ℤ t) *ℤ m) <ℤ (k *ℤ a +ℤ s)
+there-step k a s t m h ha hs =
+    let ρ = k ∷ a ∷ s ∷ t ∷ m ∷ [] in
+    let others = low-step k a (s -ℤ pos 1) t m h ha (≤lin ρ (search reps depth 12) tt (omega (arith, lin< ρ (search reps depth 12) tt hs))) in
+    <lin ρ (search reps depth 12) tt (omega (arith, lin≤ ρ (search reps depth 12) tt others))
+
 module _ (D : Corner) (m : ℤ) where
   pub weighted-low : (A : List Corner) (ws : List ℕ) → length ws ≡ length A → ((a : Corner) → Mem a A → m ≤ℤ dot D a) → (pos (total ws) *ℤ m) ≤ℤ dot D (weighted ws A)
   unfolding dot
@@ -82,3 +96,13 @@ module _ (D : Corner) (m : ℤ) where
   weighted-low (c ∷ A) [] f h = absurd (omega arith)
   weighted-low (c ∷ A) (w ∷ ws) f h = rw (dot-plus D (scaled (pos w) c) (weighted ws A), dot-scaled (pos w) D c)
       (low-step (pos w) (dot D c) (dot D (weighted ws A)) (pos (total ws)) m (omega ints) (h c (inl refl)) (weighted-low A ws (omega arith) (λ a i. h a (inr i))))
+
+  -- strictly, where every weight is above zero and one corner projects above the bound
+  pub weighted-above : (A : List Corner) (ws : List ℕ) → length ws ≡ length A → AllAbove ws → ((a : Corner) → Mem a A → m ≤ℤ dot D a) → (c : Corner) → Mem c A → m <ℤ dot D c
+      → (pos (total ws) *ℤ m) <ℤ dot D (weighted ws A)
+  weighted-above [] ws f g h c n l = absurd n
+  weighted-above (a ∷ A) [] f g h c n l = absurd (omega arith)
+  weighted-above (a ∷ A) (w ∷ ws) f g h c (inl e) l = rw (dot-plus D (scaled (pos w) a) (weighted ws A), dot-scaled (pos w) D a)
+      (here-step (pos w) (dot D a) (dot D (weighted ws A)) (pos (total ws)) m (omega (ints, g .0)) (rw e at l) (weighted-low A ws (omega arith) (λ a i. h a (inr i))))
+  weighted-above (a ∷ A) (w ∷ ws) f g h c (inr n) l = rw (dot-plus D (scaled (pos w) a) (weighted ws A), dot-scaled (pos w) D a)
+      (there-step (pos w) (dot D a) (dot D (weighted ws A)) (pos (total ws)) m (omega ints) (h a (inl refl)) (weighted-above A ws (omega arith) (g .1) (λ a i. h a (inr i)) c n l))

@@ -8,16 +8,20 @@ use Prim.Native.Nat.{ℕ, zero, suc, _+_, _-_, _≤_, _<_}
 use native.Mathlib.Omega.{arith}
 use lib.Dec.{ltb}
 use borrow.Author.Tests.{lt-ltb, le-ltb, ltb-true}
-use lib.IntN.{pos}
+use lib.IntN.{pos, _-ℤ_}
 use lib.ListN.{length}
 use lib.Signed.{_≤ℤ_, _<ℤ_, <ℤ-irrefl}
 use Rattle.whole.specs.Member.{Mem}
 use Rattle.whole.proofs.Ring.{reps, by-ring}
+use Rattle.whole.proofs.Linear.{ints, lin<, lin≡}
+use Rattle.whole.proofs.Order.{mul-pos, ≤-or-<}
 use Rattle.whole.proofs.Members.{mem-at, at-mem}
 use Rattle.plane.specs.Point.{origin, step, cross, dot, side}
 use Rattle.plane.specs.Edges.{corner, next, edge}
+use Rattle.plane.specs.Interval.{low, high}
 use Rattle.plane.specs.declared.Corner.{Corner}
-use Rattle.plane.proofs.Products.{coords, side-dot}
+use Rattle.plane.proofs.Products.{coords, side-dot, lagrange-cross}
+use Rattle.plane.proofs.Intervals.{low-bound, high-bound}
 use Rattle.plane.proofs.Extreme.{dot-pos}
 
 pub record Wide (A : List Corner) : Type 0 where
@@ -94,3 +98,32 @@ edge-long A w i h = ⊎-elim (λ z. absurd (no z)) (λ l. l) (dot-pos (edge A i)
 
 pub side-long : (A : List Corner) → Wide A → (i : ℕ) → i < length A → pos 0 <ℤ dot (side (edge A i)) (side (edge A i))
 side-long A w i h = rw (side-dot (edge A i) (edge A i)) (edge-long A w i h)
+
+-- ---- in every direction a wide outline is more than one value across
+-- two steps square to D are along one line
+square-cross : (D e u : Corner) → pos 0 <ℤ dot D D → dot D e ≡ pos 0 → dot D u ≡ pos 0 → pos 0 <ℤ cross e u → ⊥
+square-cross D e u h he hu hc =
+    let ρ = dot D D ∷ cross e u ∷ cross D u ∷ cross D e ∷ [] in
+    omega (arith, lin< ρ (search reps depth 12) tt (mul-pos (dot D D) (cross e u) h hc), lin≡ ρ (search reps depth 12) tt (rw (he, hu) at (lagrange-cross D e u)))
+
+dot-step : (D p q : Corner) → dot D (step p q) ≡ dot D q -ℤ dot D p
+unfolding dot
+dot-step D p q = by-ring (coords (D ∷ p ∷ q ∷ [])) (search reps depth 12) (search reps depth 12) tt
+
+pub wide-across : (A : List Corner) → Wide A → (D : Corner) → pos 0 <ℤ dot D D → low D A <ℤ high D A
+wide-across A w D h = ⊎-elim (λ l. absurd (no l)) (λ l. l) (≤-or-< (high D A) (low D A))
+  where
+    no : high D A ≤ℤ low D A → ⊥
+    no l =
+        let i : ℕ = 0 in
+        let c = w .spread i (w .some) in
+        square-cross D (edge A i) (step (corner A i) (corner A (c .0))) h (level i _ (w .some) (next-below (length A) i (w .some))) (level i (c .0) (w .some) (c .1)) (c .2)
+      where
+        level : (i k : ℕ) → i < length A → k < length A → dot D (step (corner A i) (corner A k)) ≡ pos 0
+        level i k hi hk =
+            let p = corner A i in
+            let q = corner A k in
+            let mp = mem-at A i origin hi in
+            let mq = mem-at A k origin hk in
+            let same : dot D q ≡ dot D p = omega (ints, low-bound D A p mp, high-bound D A p mp, low-bound D A q mq, high-bound D A q mq) in
+            dot-step D p q ∙ ap (λ z. z -ℤ dot D p) same ∙ by-ring (dot D p ∷ []) (search reps depth 12) (search reps depth 12) tt

@@ -1,8 +1,9 @@
 -- The closed interval to which a list of corners projects in a direction, and when two such intervals share a value.
---   low D A        the least dot product of D with a corner of A
---   high D A       the greatest
---   shares D A B   the intervals of A and B in the direction D share a value
---   touches D A B  they share exactly one value: the greater of the two lows equals the lesser of the two highs
+--   low D A         the least dot product of D with a corner of A
+--   high D A        the greatest
+--   shares D A B    the intervals of A and B in the direction D share a value
+--   touches D A B   they share exactly one value: the greater of the two lows equals the lesser of the two highs
+--   overlaps D A B  they share more than one value: the greater of the two lows is below the lesser of the two highs
 use mathlib.Core.Bool.{Bool, not, _&&_}
 use mathlib.Core.List.{List, map}
 use lib.IntN.{ℤ, pos}
@@ -25,3 +26,9 @@ touches D A B =
     let greaterLow = betterOf (λ a b. ltZ b a) (low D A) (low D B) in
     let lesserHigh = betterOf ltZ (high D A) (high D B) in
     not (ltZ greaterLow lesserHigh) && not (ltZ lesserHigh greaterLow)
+
+unfoldable pub overlaps : Corner → List Corner → List Corner → Bool
+overlaps D A B =
+    let greaterLow = betterOf (λ a b. ltZ b a) (low D A) (low D B) in
+    let lesserHigh = betterOf ltZ (high D A) (high D B) in
+    ltZ greaterLow lesserHigh

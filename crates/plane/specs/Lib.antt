@@ -6,3 +6,4 @@ pub mod Interval
 pub mod Apart
 pub mod Inside
 pub mod CommonPoint
+pub mod InnerPoint
