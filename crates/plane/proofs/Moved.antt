@@ -2,7 +2,7 @@
 -- Its interval in a direction is the outline's, times d and moved by the velocity's projection, times n.
 -- So whether two moved outlines share a value is two inequalities between whole numbers.
 use mathlib.Core.Path.{_≡_, refl, sym, _∙_, ap, ap₂}
-use mathlib.Core.Bool.{true, _&&_}
+use mathlib.Core.Bool.{Bool, true, _&&_}
 use mathlib.Core.Logic.{_↔_}
 use mathlib.Core.List.{List, [], _∷_, map, map-map, map-id}
 use Prim.Native.Nat.{ℕ, zero, suc, _≤_, _<_}
@@ -10,17 +10,17 @@ use native.Mathlib.Omega.{arith}
 use lib.IntN.{ℤ, pos, _+ℤ_, _-ℤ_, _*ℤ_, +ℤ-idr}
 use lib.ListN.{length, length-map}
 use lib.Signed.{_≤ℤ_, _<ℤ_, ltZ, leZ}
-use Rattle.whole.specs.Best.{best}
+use Rattle.whole.specs.Best.{betterOf, bestFrom, best}
 use Rattle.whole.proofs.Ring.{reps, by-ring}
 use Rattle.whole.proofs.Linear.{ints}
 use Rattle.whole.proofs.Members.{best-map}
 use Rattle.whole.proofs.Order.{mul-nonneg, mul-pos, ltZ-line, leZ-line}
-use Rattle.plane.specs.Point.{step, scaled, cross, dot}
+use Rattle.plane.specs.Point.{step, scaled, cross, dot, side}
 use Rattle.plane.specs.Motion.{moved, movedAll}
 use Rattle.plane.specs.Edges.{corner, next, edge}
-use Rattle.plane.specs.Interval.{low, high, shares}
+use Rattle.plane.specs.Interval.{low, high, shares, overlaps}
 use Rattle.plane.specs.declared.Corner.{Corner}
-use Rattle.plane.proofs.Products.{corner-same, cross-scaled, scaled-cross, dot-plus, dot-scaled, scaled-dot}
+use Rattle.plane.proofs.Products.{corner-same, cross-scaled, scaled-cross, dot-plus, dot-scaled, scaled-dot, side-scaled}
 use Rattle.plane.proofs.Intervals.{shares-yes, shares-true}
 use Rattle.plane.proofs.Wide.{Wide, next-below}
 
@@ -61,6 +61,13 @@ module _ (n d : ℕ) (v : Corner) where
         let s = w .spread i i-below in
         (s .0, rw (length-map A (moved n d v)) (s .1), rw (cross-moved A i (s .0) i-below (s .1)) (mul-pos (pos d) _ (omega ints) (mul-pos (pos d) _ (omega ints) (s .2))));
   }
+
+  -- a test of directions that does not heed their length passes on every side of the moved outline where it passes on every side of the outline as given
+  pub sides-moved : (test : Corner → Bool) → ((D : Corner) → test (scaled (pos d) D) ≡ test D) → (A : List Corner) → ((i : ℕ) → i < length A → test (side (edge A i)) ≡ true)
+      → (i : ℕ) → i < length (movedAll n d v A) → test (side (edge (movedAll n d v A) i)) ≡ true
+  sides-moved test keeps A f i h =
+      let l = rw (length-map A (moved n d v)) at h in
+      ap test (ap side (edge-moved A i l) ∙ side-scaled (pos d) (edge A i)) ∙ keeps (side (edge A i)) ∙ f i l
 
 -- ---- intervals: z goes to k·z + c, which keeps the order
 module _ (k c : ℤ) (h : pos 0 <ℤ k) where
@@ -109,3 +116,13 @@ module _ (D : Corner) (k : ℤ) (hk : pos 0 <ℤ k) where
   pub shares-scaled : (A B : List Corner) → shares (scaled k D) A B ≡ shares D A B
   unfolding shares
   shares-scaled A B = ap₂ _&&_ (ap₂ leZ (low-scaled A) (high-scaled B) ∙ leZ-line k (pos 0) hk (low D A) (high D B)) (ap₂ leZ (low-scaled B) (high-scaled A) ∙ leZ-line k (pos 0) hk (low D B) (high D A))
+
+  pub overlaps-scaled : (A B : List Corner) → overlaps (scaled k D) A B ≡ overlaps D A B
+  unfolding overlaps best bestFrom
+  overlaps-scaled A B =
+      ap₂ ltZ (ap₂ (betterOf (λ x y. ltZ y x)) (low-scaled A) (low-scaled B) ∙ better-line (λ x y. ltZ y x) (λ x y. ltZ-line k (pos 0) hk y x) (low D A) (low D B))
+      (ap₂ (betterOf ltZ) (high-scaled A) (high-scaled B) ∙ better-line ltZ (ltZ-line k (pos 0) hk) (high D A) (high D B))
+      ∙ ltZ-line k (pos 0) hk _ _
+    where
+      better-line : (better : ℤ → ℤ → Bool) → ((x y : ℤ) → better (k *ℤ x +ℤ pos 0) (k *ℤ y +ℤ pos 0) ≡ better x y) → (x y : ℤ) → betterOf better (k *ℤ x +ℤ pos 0) (k *ℤ y +ℤ pos 0) ≡ k *ℤ betterOf better x y +ℤ pos 0
+      better-line better keeps x y = best-map better better (λ z. k *ℤ z +ℤ pos 0) keeps (λ z. z) (λ z. k *ℤ z +ℤ pos 0) (λ z. refl) (pos 0) (pos 0) x (y ∷ [])
