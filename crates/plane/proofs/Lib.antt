@@ -11,6 +11,9 @@ pub mod Nearest
 pub mod Separation
 pub mod Moved
 pub mod CommonAt
+pub mod Shrunk
+pub mod InnerPoints
+pub mod InnerAt
 pub mod Insides
 pub mod Segments
 pub mod Exit
