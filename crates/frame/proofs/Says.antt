@@ -15,6 +15,7 @@ use Rattle.whole.proofs.Flags.{cond-by}
 use Rattle.whole.proofs.Indices.{lowest-bound}
 use Rattle.span.specs.Outcome.{firstOf, lastOf, firstPlace, lastPlace, lead}
 use Rattle.span.specs.Lead.{Comparable}
+use Rattle.span.specs.declared.Edition.the-variants.{First}
 use Rattle.span.specs.declared.Lead.{Lead}
 use Rattle.span.specs.declared.Span.{Span}
 use Rattle.span.specs.declared.Outcome.the-variants.{FromTo}
@@ -106,8 +107,8 @@ module _ (h : HeldMove) (f : Fit h) where
   pub sayable-verdict : Sayable (verdict (moveHeld h))
   unfolding verdict
   sayable-verdict =
-      outcome-by (natAbs (h .limit)) l (spans-some h f) (spans-made h f .good) (λ o. Timed o → Sayable (verdictFrom (moveHeld h) o)) (λ i e t. side-few _) (λ a e t. (side-few _, side-few _)) (λ a e t. sayable-contact (lead (lowestTerms (firstOf l)) (firstPlace l)) (lead (lowestTerms (lastOf l)) (lastPlace l)) (side-few _) t)
-      (outcome-timed (natAbs (h .limit)) l (spans-some h f) (spans-made h f))
+      outcome-by (natAbs (h .limit)) l (spans-some h f) (spans-made h f .good) First 0 (λ o. Timed o → Sayable (verdictFrom (moveHeld h) o)) (λ i e t. side-few _) (λ a e t. (side-few _, side-few _)) (λ a e t. sayable-contact (lead (lowestTerms (firstOf l)) (firstPlace l)) (lead (lowestTerms (lastOf l)) (lastPlace l)) (side-few _) t)
+      (outcome-timed First 0 (natAbs (h .limit)) l (spans-some h f) (spans-made h f))
 
 -- ---- the answers
 pub sayable-reading : (r : Reading) → Readable r → Sayable (answerBy (r .refusal) (moveHeld (r .held)))

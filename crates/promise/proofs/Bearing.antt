@@ -35,6 +35,7 @@ use Rattle.verdict.specs.declared.Answer.the-variants.{ClearByOne, ClearByTwo, 
 use Rattle.showing.specs.declared.Showing.{Showing}
 use Rattle.moves.specs.Refusal.{refusal}
 use Rattle.moves.proofs.Accepted.{accepted-yes}
+use Rattle.span.specs.declared.Edition.the-variants.{First}
 use Rattle.span.proofs.Outcomes.{outcome-by}
 use Rattle.promise.proofs.Promised.{accepted-wide}
 use Rattle.verdict.proofs.SideSpans.{spans-length, spans-at, spans-good}
@@ -164,7 +165,7 @@ two-contact i j e is = let z : _≡_ {A = ℕ} 0 1 = cc in omega arith
 pub bears-wide : (m : Move) → Wide (m .a) → Wide (m .b) → (e : Evidence) → verdict m ≡ Contact e → BearingPromise m e
 unfolding verdict
 bears-wide m wa wb =
-    outcome-by (natAbs (m .limit)) (spans m) (omega (arith, spans-length m, wa .some)) (spans-good m (wa .some) (wb .some)) (λ o. (e : Evidence) → verdictFrom m o ≡ Contact e → BearingPromise m e)
+    outcome-by (natAbs (m .limit)) (spans m) (omega (arith, spans-length m, wa .some)) (spans-good m (wa .some) (wb .some)) First 0 (λ o. (e : Evidence) → verdictFrom m o ≡ Contact e → BearingPromise m e)
     (λ h p e is. absurd (one-contact _ e is)) (λ a p e is. absurd (two-contact _ _ e is)) (λ a p e is. subst (BearingPromise m) (contact-same _ e is) (bears-contact m wa wb a _ _))
 
 pub bears : (m : Move) → refusal m ≡ 0 → (e : Evidence) → verdict m ≡ Contact e → BearingPromise m e

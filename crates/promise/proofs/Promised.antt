@@ -14,6 +14,7 @@ use lib.IntN.{ℤ, natAbs}
 use lib.ListN.{length}
 use borrow.Author.Tests.{eq-eqb}
 use Rattle.span.specs.Outcome.{emptyPlace}
+use Rattle.span.specs.declared.Edition.the-variants.{First}
 use Rattle.span.proofs.Outcomes.{outcome-by}
 use Rattle.plane.specs.declared.Corner.{Corner}
 use Rattle.plane.proofs.Wide.{Wide}
@@ -43,7 +44,7 @@ module _ (m : Move) (wa : Wide (m .a)) (wb : Wide (m .b)) where
   pub promise-wide : Promise m (verdict m)
   unfolding verdict
   promise-wide =
-      outcome-by (natAbs (m .limit)) (spans m) some (spans-good m (wa .some) (wb .some)) (λ o. Promise m (verdictFrom m o))
+      outcome-by (natAbs (m .limit)) (spans m) some (spans-good m (wa .some) (wb .some)) First 0 (λ o. Promise m (verdictFrom m o))
       (λ h e. promise-by-one m wa wb (emptyPlace (spans m)) (omega (arith, spans-length m)) e) (λ a e. promise-by-two m wa wb a e) (λ a e. promise-contact m wa wb a e _)
 
 -- ---- accepted moves

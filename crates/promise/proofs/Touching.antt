@@ -29,6 +29,7 @@ use Rattle.verdict.specs.Sides.{sideCount, sideOf}
 use Rattle.verdict.specs.Span.{span}
 use Rattle.span.specs.Outcome.{begin}
 use Rattle.promise.specs.Promise.{MeetAt}
+use Rattle.span.specs.declared.Edition.the-variants.{First}
 use Rattle.span.proofs.Windows.{window-reached}
 
 spread-≡ : (d n a b v w : ℤ) → d *ℤ (a -ℤ b) ≡ n *ℤ (w -ℤ v) → d *ℤ a +ℤ n *ℤ v ≡ d *ℤ b +ℤ n *ℤ w
@@ -66,7 +67,7 @@ module _ (m : Move) (wa : Wide (m .a)) (wb : Wide (m .b)) (k : ℕ) (h : k < sid
         let lo = low D (m .a) -ℤ high D (m .b) in
         let hi = high D (m .a) -ℤ low D (m .b) in
         let w = dot D (m .vb) -ℤ dot D (m .va) in
-        window-reached t lo hi w (natAbs (m .limit)) is above
+        window-reached t First lo hi w (natAbs (m .limit)) is above
 
     pub one-value : (high D B ≡ low D A) ⊎ (high D A ≡ low D B)
     one-value =

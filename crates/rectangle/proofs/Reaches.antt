@@ -4,6 +4,7 @@ use native.Mathlib.Omega.{arith}
 use lib.IntN.{_-ℤ_}
 use Rattle.whole.specs.Within.{Within}
 use Rattle.whole.proofs.Bound.{bounds, within}
+use Rattle.span.specs.declared.Edition.the-variants.{First}
 use Rattle.span.proofs.Windows.{ShortSpan, window-short}
 use Rattle.rectangle.specs.Refusal.{Fits}
 use Rattle.rectangle.specs.Worked.{Reaching, ax, ay, bx, by, along}
@@ -37,4 +38,4 @@ module _ (a b : Reach) (T : ℕ) (ra : Reaching a) (rb : Reaching b) (h : T < 2 
       let lo : Within 20000 (a .low -ℤ b .high) = within (search bounds depth 12) tt in
       let hi : Within 20000 (a .high -ℤ b .low) = within (search bounds depth 12) tt in
       let w : Within 20000 (b .speed -ℤ a .speed) = within (search bounds depth 12) tt in
-      window-short (a .low -ℤ b .high) (a .high -ℤ b .low) (b .speed -ℤ a .speed) T (omega (arith, lo .le)) (omega (arith, hi .le)) (omega (arith, w .le)) h
+      window-short First (a .low -ℤ b .high) (a .high -ℤ b .low) (b .speed -ℤ a .speed) T (omega (arith, lo .le)) (omega (arith, hi .le)) (omega (arith, w .le)) h

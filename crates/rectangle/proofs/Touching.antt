@@ -9,7 +9,7 @@ use lib.Signed.{ltZ}
 use Rattle.whole.specs.Best.{betterOf}
 use Rattle.whole.specs.Lowest.{lowest}
 use Rattle.whole.proofs.Indices.{lowest-cong}
-use Rattle.span.proofs.Alike.{less-scaled, less-turned}
+use Rattle.span.proofs.Editions.{less-scaled, less-turned}
 use Rattle.plane.specs.Interval.{touches}
 use Rattle.plane.specs.declared.Corner.{Corner}
 use Rattle.moves.specs.Move.{Move}

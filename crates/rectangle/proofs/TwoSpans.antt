@@ -9,6 +9,7 @@ use lib.Signed.{_≤ℤ_}
 use Rattle.whole.proofs.Ring.{reps, by-ring}
 use Rattle.whole.proofs.Order.{<-le}
 use Rattle.span.specs.Outcome.{spanAt, outcome}
+use Rattle.span.specs.declared.Edition.the-variants.{First}
 use Rattle.span.proofs.Casts.{limit-short}
 use Rattle.span.proofs.Windows.{Good, ShortSpan, window-good}
 use Rattle.span.proofs.Outcomes.{Made}
@@ -33,18 +34,18 @@ seen-alike : (m : Move) (k : ℕ) (a b : Reach) → Seen m (sideOf m k) a b → 
 unfolding span along
 seen-alike m k a b s =
     rw (s .low-a, s .high-a, s .low-b, s .high-b, s .speed-a, s .speed-b, gap-scaled (s .factor) (a .low) (b .high), gap-scaled (s .factor) (a .high) (b .low), gap-scaled (s .factor) (b .speed) (a .speed))
-    (window-scaled (s .factor) (s .above) (a .low -ℤ b .high) (a .high -ℤ b .low) (b .speed -ℤ a .speed) (natAbs (m .limit)))
+    (window-scaled (s .factor) (s .above) First (a .low -ℤ b .high) (a .high -ℤ b .low) (b .speed -ℤ a .speed) (natAbs (m .limit)))
 
 gap-turned : (x y : ℤ) → negℤ x -ℤ negℤ y ≡ negℤ (x -ℤ y)
 gap-turned x y = by-ring (x ∷ y ∷ []) (search reps depth 12) (search reps depth 12) tt
 
 along-turned : (a b : Reach) (T : ℕ) → along (turned a) (turned b) T ≡ along a b T
 unfolding along
-along-turned a b T = rw (gap-turned (a .high) (b .low), gap-turned (a .low) (b .high), gap-turned (b .speed) (a .speed)) (window-turned (a .low -ℤ b .high) (a .high -ℤ b .low) (b .speed -ℤ a .speed) T)
+along-turned a b T = rw (gap-turned (a .high) (b .low), gap-turned (a .low) (b .high), gap-turned (b .speed) (a .speed)) (window-turned First (a .low -ℤ b .high) (a .high -ℤ b .low) (b .speed -ℤ a .speed) T)
 
 along-good : (a b : Reach) (T : ℕ) → a .low ≤ℤ a .high → b .low ≤ℤ b .high → Good T (along a b T)
 unfolding along
-along-good a b T h k = window-good (a .low -ℤ b .high) (a .high -ℤ b .low) (b .speed -ℤ a .speed) T (gap-le (a .low) (a .high) (b .low) (b .high) h k)
+along-good a b T h k = window-good First (a .low -ℤ b .high) (a .high -ℤ b .low) (b .speed -ℤ a .speed) T (gap-le (a .low) (a .high) (b .low) (b .high) h k)
 
 -- ---- the two spans
 module _ (m : RectangleMove) where
@@ -88,4 +89,4 @@ module _ (m : RectangleMove) where
         }
 
     pub two-spans : outcome (spans (fourCorners m)) ≡ outcome (twoSpans m)
-    two-spans = outcome-agree (spans (fourCorners m)) (twoSpans m) agree (natAbs (m .limit)) (omega arith) (λ k. spans-good (fourCorners m) (omega arith) (omega arith) k) two-good
+    two-spans = outcome-agree (spans (fourCorners m)) (twoSpans m) agree First 0 (natAbs (m .limit)) (omega arith) (λ k. spans-good (fourCorners m) (omega arith) (omega arith) k) two-good

@@ -9,6 +9,7 @@ use super::Reach;
 use super::Rectangle;
 use super::RectangleMove;
 use plane::Corner;
+use span::Edition;
 use span::Lead;
 use span::Outcome;
 use span::Span;
@@ -41,7 +42,13 @@ fn along(a: Reach, b: Reach, limit: i64) -> Span
     requires { ⌜ Reaching a × Reaching b × Limited limit ⌝ }
     ensures { λ r. ⌜ r ≡ along a b (natAbs limit) ⌝ }
 {
-    span::window(a.low - b.high, a.high - b.low, b.speed - a.speed, limit)
+    span::window(
+        Edition::First,
+        a.low - b.high,
+        a.high - b.low,
+        b.speed - a.speed,
+        limit,
+    )
 }
 
 // Whether they share exactly one at time zero.
@@ -85,7 +92,7 @@ pub fn outcome(m: RectangleMove) -> Outcome
         end_x,
         1,
     );
-    span::concluded(first, last)
+    span::concluded(Edition::First, first, last, m.limit)
 }
 
 // The side that bears at time zero: that of y, that of x, or none.

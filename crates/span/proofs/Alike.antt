@@ -1,29 +1,30 @@
 -- Spans of one value, which are the same in lowest terms. A window keeps its value where lo, hi and w are multiplied by one number above zero, or turned round; and as `before` cannot tell times of one value, the outcome of a list goes by the values of its spans, each at the lowest place that has it.
 use mathlib.Core.Path.{_≡_, refl, sym, _∙_, ap, ap₂}
-use mathlib.Core.Bool.{Bool, true, false, cond}
+use mathlib.Core.Bool.{Bool, true, false, cond, not}
 use mathlib.Core.List.{List}
 use Prim.Native.Nat.{ℕ, zero, suc, _*_, _≤_, _<_}
 use native.Mathlib.Nat.{mul-div-mul-left}
 use native.Mathlib.Omega.{arith}
-use lib.Dec.{ltb}
-use lib.IntN.{ℤ, pos, negsuc, negℤ, natAbs, _*ℤ_, *ℤ-zero, +ℤ-idr, negℤ-negℤ}
+use lib.Dec.{ltb, eqb}
+use lib.IntN.{ℤ, pos, negsuc, negℤ, natAbs, _*ℤ_, *ℤ-zero, negℤ-negℤ}
 use lib.ListN.{length}
 use lib.Signed.{_<ℤ_, ltZ}
 use borrow.Author.Tests.{ltb-true, ltb-false, le-ltb, lt-ltb}
 use Rattle.whole.specs.Time.{time, Proper, before, gcd, reduced, lowestTerms}
 use Rattle.whole.specs.declared.Time.{Time}
-use Rattle.whole.proofs.Parts.{P-neg, N-neg}
 use Rattle.whole.proofs.RingLaws.{*ℤ-lcomm}
 use Rattle.whole.proofs.Bound.{abs-mul, abs-parts}
 use Rattle.whole.proofs.Linear.{ints}
-use Rattle.whole.proofs.Order.{ltZ-line}
 use Rattle.whole.proofs.Divisors.{gcd-scale}
 use Rattle.whole.proofs.Indices.{lowest-yes, lowest-below, lowest-is, lowest-none}
 use Rattle.whole.proofs.Fractions.{lowestTerms-before, before-lowestTerms}
-use Rattle.span.specs.Window.{beginAhead, endAhead, windowAhead, windowStill, window}
-use Rattle.span.specs.Outcome.{isEmpty, begin, end, spanAt, emptyPlace, firstOf, lastOf, firstPlace, lastPlace, outcome}
+use Rattle.span.specs.Window.{misses, beginAhead, endAhead, windowAheadIn, windowStillIn, windowIn}
+use Rattle.span.specs.Outcome.{isEmpty, begin, end, spanAt, emptyPlace, firstOf, lastOf, firstPlace, lastPlace, parted, outcomeIn}
+use Rattle.span.specs.declared.Edition.{Edition}
+use Rattle.span.specs.declared.Edition.the-variants.{First, Second}
 use Rattle.span.specs.declared.Span.{Span}
 use Rattle.span.specs.declared.Span.the-variants.{Empty, Between}
+use Rattle.span.proofs.Editions.{less-scaled, misses-scaled, misses-turned}
 use Rattle.span.proofs.Windows.{Good, neg-mul}
 use Rattle.span.proofs.Firsts.{AllFull, Foremost, after, begin-proper, end-proper, first-foremost, last-foremost, first-proper, last-proper, first-is, last-is}
 use Rattle.span.proofs.Outcomes.{all-full}
@@ -45,63 +46,53 @@ unfolding reduced
 reduced-scaled k n d h = rw (gcd-scale k n d) (ap₂ time (mul-div-mul-left n (gcd n d) h) (mul-div-mul-left d (gcd n d) h))
 
 module _ (f : ℤ) (h : pos 0 <ℤ f) where
-  pub less-scaled : (x y : ℤ) → ltZ (f *ℤ x) (f *ℤ y) ≡ ltZ x y
-  less-scaled x y = ap₂ ltZ (sym (+ℤ-idr (f *ℤ x))) (sym (+ℤ-idr (f *ℤ y))) ∙ ltZ-line f (pos 0) h x y
+  below-scaled : (v : Edition) (x : ℤ) → misses v (f *ℤ x) (pos 0) ≡ misses v x (pos 0)
+  below-scaled v x = ap (misses v (f *ℤ x)) (sym (*ℤ-zero f)) ∙ misses-scaled f h v x (pos 0)
 
-  below-scaled : (x : ℤ) → ltZ (f *ℤ x) (pos 0) ≡ ltZ x (pos 0)
-  below-scaled x = ap (ltZ (f *ℤ x)) (sym (*ℤ-zero f)) ∙ less-scaled x (pos 0)
-
-  above-scaled : (x : ℤ) → ltZ (pos 0) (f *ℤ x) ≡ ltZ (pos 0) x
-  above-scaled x = ap (λ z. ltZ z (f *ℤ x)) (sym (*ℤ-zero f)) ∙ less-scaled (pos 0) x
+  above-scaled : (v : Edition) (x : ℤ) → misses v (pos 0) (f *ℤ x) ≡ misses v (pos 0) x
+  above-scaled v x = ap (λ z. misses v z (f *ℤ x)) (sym (*ℤ-zero f)) ∙ misses-scaled f h v (pos 0) x
 
   time-scaled : (n d : ℤ) → lowestTerms (time (natAbs (f *ℤ n)) (natAbs (f *ℤ d))) ≡ lowestTerms (time (natAbs n) (natAbs d))
   time-scaled n d = rw (abs-mul f n, abs-mul f d) (reduced-scaled (natAbs f) (natAbs n) (natAbs d) (omega (ints, abs-parts f)))
 
   begin-scaled : (lo w : ℤ) → lowestTerms (beginAhead (f *ℤ lo) (f *ℤ w)) ≡ lowestTerms (beginAhead lo w)
-  begin-scaled lo w = rw (above-scaled lo) (cond-ap lowestTerms (ltZ (pos 0) lo) (time-scaled lo w) refl)
+  begin-scaled lo w = rw (above-scaled First lo) (cond-ap lowestTerms (ltZ (pos 0) lo) (time-scaled lo w) refl)
 
   end-scaled : (hi w : ℤ) (T : ℕ) → lowestTerms (endAhead (f *ℤ hi) (f *ℤ w) T) ≡ lowestTerms (endAhead hi w T)
-  end-scaled hi w T = rw (*ℤ-lcomm (pos T) f w, less-scaled hi (pos T *ℤ w)) (cond-ap lowestTerms (ltZ hi (pos T *ℤ w)) (time-scaled hi w) refl)
+  end-scaled hi w T = rw (*ℤ-lcomm (pos T) f w, less-scaled f h hi (pos T *ℤ w)) (cond-ap lowestTerms (ltZ hi (pos T *ℤ w)) (time-scaled hi w) refl)
 
-  ahead-scaled : (lo hi w : ℤ) (T : ℕ) → Alike (windowAhead (f *ℤ lo) (f *ℤ hi) (f *ℤ w) T) (windowAhead lo hi w T)
-  unfolding windowAhead
-  ahead-scaled lo hi w T =
+  ahead-scaled : (v : Edition) (lo hi w : ℤ) (T : ℕ) → Alike (windowAheadIn v (f *ℤ lo) (f *ℤ hi) (f *ℤ w) T) (windowAheadIn v lo hi w T)
+  unfolding windowAheadIn
+  ahead-scaled v lo hi w T =
       let b = begin-scaled lo w in
       let e = end-scaled hi w T in
-      rw (below-scaled hi, ap (λ z. ltZ z (f *ℤ lo)) (*ℤ-lcomm (pos T) f w) ∙ less-scaled (pos T *ℤ w) lo) (cond-ap inLowest (ltZ hi (pos 0)) refl (cond-ap inLowest (ltZ (pos T *ℤ w) lo) refl (ap₂ Between b e)))
+      rw (below-scaled v hi, ap (λ z. misses v z (f *ℤ lo)) (*ℤ-lcomm (pos T) f w) ∙ misses-scaled f h v (pos T *ℤ w) lo) (cond-ap inLowest (misses v hi (pos 0)) refl (cond-ap inLowest (misses v (pos T *ℤ w) lo) refl (ap₂ Between b e)))
 
-  still-scaled : (lo hi : ℤ) (T : ℕ) → windowStill (f *ℤ lo) (f *ℤ hi) T ≡ windowStill lo hi T
-  unfolding windowStill
-  still-scaled lo hi T = rw (above-scaled lo, below-scaled hi)
+  still-scaled : (v : Edition) (lo hi : ℤ) (T : ℕ) → windowStillIn v (f *ℤ lo) (f *ℤ hi) T ≡ windowStillIn v lo hi T
+  unfolding windowStillIn
+  still-scaled v lo hi T = rw (above-scaled v lo, below-scaled v hi)
 
-  pub window-scaled : (lo hi w : ℤ) (T : ℕ) → Alike (window (f *ℤ lo) (f *ℤ hi) (f *ℤ w) T) (window lo hi w T)
-  unfolding window
-  window-scaled lo hi w T =
-      rw (above-scaled w, below-scaled w, ← neg-mul f hi, ← neg-mul f lo, ← neg-mul f w)
-      (cond-ap inLowest (ltZ (pos 0) w) (ahead-scaled lo hi w T) (cond-ap inLowest (ltZ w (pos 0)) (ahead-scaled (negℤ hi) (negℤ lo) (negℤ w) T) (ap inLowest (still-scaled lo hi T))))
+  pub window-scaled : (v : Edition) (lo hi w : ℤ) (T : ℕ) → Alike (windowIn v (f *ℤ lo) (f *ℤ hi) (f *ℤ w) T) (windowIn v lo hi w T)
+  unfolding windowIn
+  window-scaled v lo hi w T =
+      rw (above-scaled First w, below-scaled First w, ← neg-mul f hi, ← neg-mul f lo, ← neg-mul f w)
+      (cond-ap inLowest (ltZ (pos 0) w) (ahead-scaled v lo hi w T) (cond-ap inLowest (ltZ w (pos 0)) (ahead-scaled v (negℤ hi) (negℤ lo) (negℤ w) T) (ap inLowest (still-scaled v lo hi T))))
 
 -- ---- a window whose numbers are turned round
-pub less-turned : (x y : ℤ) → ltZ (negℤ x) (negℤ y) ≡ ltZ y x
-less-turned x y = go (ltZ y x) refl
-  where
-    go : (t : Bool) → ltZ y x ≡ t → ltZ (negℤ x) (negℤ y) ≡ t
-    go true e = omega (ints, P-neg x, N-neg x, P-neg y, N-neg y)
-    go false e = omega (ints, P-neg x, N-neg x, P-neg y, N-neg y)
-
 cond-swap : {A : Type 0} (s t : Bool) (x y : A) → cond s x (cond t x y) ≡ cond t x (cond s x y)
 cond-swap true true x y = refl
 cond-swap true false x y = refl
 cond-swap false t x y = refl
 
-still-turned : (lo hi : ℤ) (T : ℕ) → windowStill (negℤ hi) (negℤ lo) T ≡ windowStill lo hi T
-unfolding windowStill
-still-turned lo hi T = rw (less-turned (pos 0) hi, less-turned lo (pos 0)) (cond-swap (ltZ hi (pos 0)) (ltZ (pos 0) lo) Empty _)
+still-turned : (v : Edition) (lo hi : ℤ) (T : ℕ) → windowStillIn v (negℤ hi) (negℤ lo) T ≡ windowStillIn v lo hi T
+unfolding windowStillIn
+still-turned v lo hi T = rw (misses-turned v (pos 0) hi, misses-turned v lo (pos 0)) (cond-swap (misses v hi (pos 0)) (misses v (pos 0) lo) Empty _)
 
-pub window-turned : (lo hi w : ℤ) (T : ℕ) → window (negℤ hi) (negℤ lo) (negℤ w) T ≡ window lo hi w T
-unfolding window
-window-turned lo hi (pos zero) T = still-turned lo hi T
-window-turned lo hi (pos (suc q)) T = rw (negℤ-negℤ lo, negℤ-negℤ hi, lt-ltb 0 (suc q) (omega arith))
-window-turned lo hi (negsuc k) T = rw (lt-ltb 0 (suc k) (omega arith))
+pub window-turned : (v : Edition) (lo hi w : ℤ) (T : ℕ) → windowIn v (negℤ hi) (negℤ lo) (negℤ w) T ≡ windowIn v lo hi w T
+unfolding windowIn
+window-turned v lo hi (pos zero) T = still-turned v lo hi T
+window-turned v lo hi (pos (suc q)) T = rw (negℤ-negℤ lo, negℤ-negℤ hi, lt-ltb 0 (suc q) (omega arith))
+window-turned v lo hi (negsuc k) T = rw (lt-ltb 0 (suc k) (omega arith))
 
 -- ---- two lists
 -- those of r stand in l at the same places, and each of l is one of r, in value
@@ -201,18 +192,19 @@ module _ (l r : List Span) (a : Agree l r) where
         let e = last-is l full-l (foremost-agree ends b) in
         (ap lowestTerms (sym (e .0)) ∙ here ends b, sym (e .1))
 
-    apart-agree : before (lastOf l) (firstOf l) ≡ before (lastOf r) (firstOf r)
-    apart-agree = before-alike (lastOf l) (lastOf r) (firstOf l) (firstOf r) (last-proper l full-l) (last-proper r full-r) (first-proper l full-l) (first-proper r full-r) (last-agree .0) (first-agree .0)
+    parted-agree : (v : Edition) (U : ℕ) → parted v U (firstOf l) (lastOf l) ≡ parted v U (firstOf r) (lastOf r)
+    parted-agree First U = before-alike (lastOf l) (lastOf r) (firstOf l) (firstOf r) (last-proper l full-l) (last-proper r full-r) (first-proper l full-l) (first-proper r full-r) (last-agree .0) (first-agree .0)
+    parted-agree Second U = ap (λ t. cond (eqb U 0) false (not t)) (before-alike (firstOf l) (firstOf r) (lastOf l) (lastOf r) (first-proper l full-l) (first-proper r full-r) (last-proper l full-l) (last-proper r full-r) (first-agree .0) (last-agree .0))
 
   -- ---- the outcome
   same-empty : (k j : ℕ) → Alike (spanAt l k) (spanAt r j) → isEmpty (spanAt l k) ≡ isEmpty (spanAt r j)
   same-empty k j = alike-ask isEmpty isEmpty lowest-isEmpty (spanAt l k) (spanAt r j)
 
-  pub outcome-agree : (T : ℕ) → 1 ≤ length r → ((k : ℕ) → k < length l → Good T (spanAt l k)) → ((k : ℕ) → k < length r → Good T (spanAt r k)) → outcome l ≡ outcome r
-  unfolding outcome
-  outcome-agree T some good-l good-r = go (ltb (emptyPlace r) (length r)) refl
+  pub outcome-agree : (v : Edition) (U T : ℕ) → 1 ≤ length r → ((k : ℕ) → k < length l → Good T (spanAt l k)) → ((k : ℕ) → k < length r → Good T (spanAt r k)) → outcomeIn v U l ≡ outcomeIn v U r
+  unfolding outcomeIn
+  outcome-agree v U T some good-l good-r = go (ltb (emptyPlace r) (length r)) refl
     where
-      go : (t : Bool) → ltb (emptyPlace r) (length r) ≡ t → outcome l ≡ outcome r
+      go : (t : Bool) → ltb (emptyPlace r) (length r) ≡ t → outcomeIn v U l ≡ outcomeIn v U r
       go true e =
           let p = emptyPlace r in
           let h = ltb-true p (length r) e in
@@ -224,4 +216,4 @@ module _ (l r : List Span) (a : Agree l r) where
           let none-l : emptyPlace l ≡ length l = lowest-none (λ k. isEmpty (spanAt l k)) (length l) (λ j i. let s = a .each j i in same-empty j (s .0) (s .2) ∙ lowest-below (λ k. isEmpty (spanAt r k)) (length r) (s .0) (omega (arith, s .1))) in
           let full-l = all-full T l (omega (arith, a .no-longer)) good-l (omega (arith, none-l)) in
           let full-r = all-full T r some good-r none-r in
-          rw (le-ltb (emptyPlace l) (length l) (omega (arith, none-l)), e, apart-agree full-l full-r, first-agree full-l full-r .0, first-agree full-l full-r .1, last-agree full-l full-r .0, last-agree full-l full-r .1)
+          rw (le-ltb (emptyPlace l) (length l) (omega (arith, none-l)), e, parted-agree full-l full-r v U, first-agree full-l full-r .0, first-agree full-l full-r .1, last-agree full-l full-r .0, last-agree full-l full-r .1)

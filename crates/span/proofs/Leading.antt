@@ -13,8 +13,9 @@ use Rattle.whole.specs.Time.{time, Proper, before}
 use Rattle.whole.specs.declared.Time.{Time}
 use Rattle.whole.proofs.Members.{Ranks}
 use Rattle.whole.proofs.Fractions.{ranks-before, ranks-after}
-use Rattle.span.specs.Outcome.{isEmpty, begin, end, spanAt, emptyPlace, lead, outcome}
-use Rattle.span.specs.Lead.{later, sooner, concluded, Comparable}
+use Rattle.span.specs.Outcome.{isEmpty, begin, end, spanAt, emptyPlace, lead, outcomeIn}
+use Rattle.span.specs.Lead.{later, sooner, concludedIn, Comparable}
+use Rattle.span.specs.declared.Edition.{Edition}
 use Rattle.span.specs.declared.Lead.{Lead}
 use Rattle.span.specs.declared.Span.{Span}
 use Rattle.span.specs.declared.Span.the-variants.{Empty, Between}
@@ -159,9 +160,9 @@ module _ (T : ℕ) (l : List Span) (m : Made T l) where
         }
 
     -- an empty span is the lowest, and the outcome is known
-    pub leading-empty : k < length l → Empty ≡ spanAt l k → ByOne k ≡ outcome l
-    unfolding outcome
-    leading-empty h s = rw (emptyPlace-is l k h (sym s) (g .full), lt-ltb k (length l) h)
+    pub leading-empty : (v : Edition) (U : ℕ) → k < length l → Empty ≡ spanAt l k → ByOne k ≡ outcomeIn v U l
+    unfolding outcomeIn
+    leading-empty v U h s = rw (emptyPlace-is l k h (sym s) (g .full), lt-ltb k (length l) h)
 
     -- no span was empty
     module _ (some : 1 ≤ length l) (all : k ≡ length l) where
@@ -171,9 +172,9 @@ module _ (T : ℕ) (l : List Span) (m : Made T l) where
       fulls : AllFull l
       fulls = all-full T l some (m .good) (omega (arith, none))
 
-      pub leading-end : concluded first last ≡ outcome l
-      unfolding concluded outcome
-      leading-end =
+      pub leading-end : (v : Edition) (U : ℕ) → concludedIn v U first last ≡ outcomeIn v U l
+      unfolding concludedIn outcomeIn
+      leading-end v U =
           let b = first-is l fulls (leads-end (omega arith) (sym all) (g .begins)) in
           let e = last-is l fulls (leads-end (omega arith) (sym all) (g .ends)) in
           rw (le-ltb (emptyPlace l) (length l) (omega (arith, none)), ← b .1, ← e .1, ← b .0, ← e .0)

@@ -1,4 +1,5 @@
 pub mod Casts
+pub mod Editions
 pub mod Windows
 pub mod Firsts
 pub mod Outcomes

@@ -1,4 +1,4 @@
--- The outcome of a list of spans by its cases: a span is empty, or all are full and the greatest begin exceeds the least end, or it does not, and then the greatest begin is in each span.
+-- The outcome of a list of spans by its cases, in either edition: a span is empty, or all are full and the greatest begin and the least end are parted, or they are not, and then, in edition 1, the greatest begin is in each span.
 use mathlib.Core.Path.{_≡_, refl, sym, _∙_, ap, subst}
 use mathlib.Core.Bool.{true, false, false≢true}
 use mathlib.Core.List.{List}
@@ -13,8 +13,10 @@ use Rattle.whole.proofs.Flags.{cond-by}
 use Rattle.whole.proofs.Fractions.{before-irrefl, reduced-reduced, reduced-short, lowestTerms-before, before-lowestTerms}
 use Rattle.whole.proofs.Indices.{lowest-yes, lowest-below, lowest-is, lowest-none}
 use Rattle.span.specs.InSpan.{InSpan}
-use Rattle.span.specs.Outcome.{isEmpty, begin, end, spanAt, emptyPlace, firstOf, lastOf, firstPlace, lastPlace, lead, outcome}
+use Rattle.span.specs.Outcome.{isEmpty, begin, end, spanAt, emptyPlace, firstOf, lastOf, firstPlace, lastPlace, lead, parted, outcomeIn, outcome}
 use Rattle.span.specs.Lead.{Comparable}
+use Rattle.span.specs.declared.Edition.{Edition}
+use Rattle.span.specs.declared.Edition.the-variants.{First}
 use Rattle.span.specs.declared.Lead.{Lead}
 use Rattle.span.specs.declared.Span.{Span}
 use Rattle.span.specs.declared.Span.the-variants.{Empty, Between}
@@ -47,15 +49,20 @@ module _ (T : ℕ) (l : List Span) (some : 1 ≤ length l) (good : (k : ℕ) →
   pub all-full : length l ≤ emptyPlace l → AllFull l
   all-full none = record { some = some; full = λ k i. good-full T (spanAt l k) (lowest-below (λ k. isEmpty (spanAt l k)) (length l) k (omega arith)) (good k i) }
 
-  pub outcome-by : (Q : Outcome → Type 0)
+  pub outcome-by : (v : Edition) (U : ℕ) (Q : Outcome → Type 0)
       → (emptyPlace l < length l → spanAt l (emptyPlace l) ≡ Empty → Q (ByOne (emptyPlace l)))
-      → (AllFull l → before (lastOf l) (firstOf l) ≡ true → Q (ByTwo (firstPlace l) (lastPlace l)))
-      → (AllFull l → before (lastOf l) (firstOf l) ≡ false → Q (FromTo (lead (lowestTerms (firstOf l)) (firstPlace l)) (lead (lowestTerms (lastOf l)) (lastPlace l))))
-      → Q (outcome l)
-  unfolding outcome
-  outcome-by Q one two from-to =
+      → (AllFull l → parted v U (firstOf l) (lastOf l) ≡ true → Q (ByTwo (firstPlace l) (lastPlace l)))
+      → (AllFull l → parted v U (firstOf l) (lastOf l) ≡ false → Q (FromTo (lead (lowestTerms (firstOf l)) (firstPlace l)) (lead (lowestTerms (lastOf l)) (lastPlace l))))
+      → Q (outcomeIn v U l)
+  unfolding outcomeIn
+  outcome-by v U Q one two from-to =
       cond-by Q (ltb (emptyPlace l) (length l)) _ _ (λ e. let h = ltb-true (emptyPlace l) (length l) e in one h (emptyPlace-yes l h))
-      (λ e. let a = all-full (ltb-false (emptyPlace l) (length l) e) in cond-by Q (before (lastOf l) (firstOf l)) _ _ (two a) (from-to a))
+      (λ e. let a = all-full (ltb-false (emptyPlace l) (length l) e) in cond-by Q (parted v U (firstOf l) (lastOf l)) _ _ (two a) (from-to a))
+
+-- in edition 1 the limit is not asked for
+pub first-untimed : (T : ℕ) (l : List Span) → outcomeIn First T l ≡ outcome l
+unfolding outcomeIn
+first-untimed T l = refl
 
 -- ---- spans whose times are short too: so are those of the outcome
 pub record Made (T : ℕ) (l : List Span) : Type 0 where
@@ -70,9 +77,9 @@ Timed (FromTo first last) = Comparable (first .at) × Comparable (last .at)
 lowestTerms-comparable : (t : Time) → Proper t → Short t → Comparable (lowestTerms t)
 lowestTerms-comparable t p h = (reduced-reduced (t .n) (t .d) p .proper, reduced-short (t .n) (t .d) h)
 
-pub outcome-timed : (T : ℕ) (l : List Span) → 1 ≤ length l → Made T l → Timed (outcome l)
-outcome-timed T l some m =
-    outcome-by T l some (m .good) Timed (λ h e. tt) (λ a e. tt)
+pub outcome-timed : (v : Edition) (U T : ℕ) (l : List Span) → 1 ≤ length l → Made T l → Timed (outcomeIn v U l)
+outcome-timed v U T l some m =
+    outcome-by T l some (m .good) v U Timed (λ h e. tt) (λ a e. tt)
     (λ a e. let f = firstPlace-at l a in let g = lastPlace-at l a in (
       lowestTerms-comparable (firstOf l) (first-proper l a) (subst Short (sym (f .1)) (short-begin (spanAt l (firstPlace l)) (m .short (firstPlace l) (f .0)))),
       lowestTerms-comparable (lastOf l) (last-proper l a) (subst Short (sym (g .1)) (short-end (spanAt l (lastPlace l)) (m .short (lastPlace l) (g .0)))),
@@ -114,4 +121,4 @@ module _ (T : ℕ) (l : List Span) (good : (k : ℕ) → k < length l → Good T
       }
 
   pub outcome-first : 1 ≤ length l → (first last : Lead) → outcome l ≡ FromTo first last → InEach T l (first .at)
-  outcome-first some first last e = subst FirstIn e (outcome-by T l some good FirstIn (λ h q. tt) (λ a q. tt) first-in)
+  outcome-first some first last e = subst FirstIn e (outcome-by T l some good First 0 FirstIn (λ h q. tt) (λ a q. tt) first-in)

@@ -2,7 +2,7 @@
 use mathlib.Core.Path.{_≡_, refl, sym}
 use mathlib.Core.Bool.{Bool, true, false, cond}
 use mathlib.Core.List.{[], _∷_}
-use Prim.Native.Nat.{_*_}
+use Prim.Native.Nat.{ℕ, _*_}
 use native.Mathlib.Omega.{arith}
 use borrow.Author.Tests.{ne-eqb, ltb-true}
 use Rattle.whole.specs.Best.{best, bestFrom}
@@ -10,19 +10,20 @@ use Rattle.whole.specs.Lowest.{lowest, lowestFrom}
 use Rattle.whole.specs.Time.{before, same}
 use Rattle.whole.specs.declared.Time.{Time}
 use Rattle.whole.proofs.Fractions.{same-refl}
-use Rattle.span.specs.Outcome.{lead, outcome}
-use Rattle.span.specs.Lead.{later, sooner, concluded}
+use Rattle.span.specs.Outcome.{lead, outcomeIn}
+use Rattle.span.specs.Lead.{later, sooner, concludedIn}
+use Rattle.span.specs.declared.Edition.{Edition}
 use Rattle.span.specs.declared.Span.{Span}
 use Rattle.span.specs.declared.Span.the-variants.{Empty, Between}
 use Rattle.span.specs.declared.Outcome.the-variants.{ByOne}
 
-pub first-empty : (s : Span) → ByOne 0 ≡ outcome (Empty ∷ s ∷ [])
-unfolding outcome lowest lowestFrom
-first-empty s = refl
+pub first-empty : (v : Edition) (T : ℕ) (s : Span) → ByOne 0 ≡ outcomeIn v T (Empty ∷ s ∷ [])
+unfolding outcomeIn lowest lowestFrom
+first-empty v T s = refl
 
-pub second-empty : (b e : Time) → ByOne 1 ≡ outcome (Between b e ∷ Empty ∷ [])
-unfolding outcome lowest lowestFrom
-second-empty b e = refl
+pub second-empty : (v : Edition) (T : ℕ) (b e : Time) → ByOne 1 ≡ outcomeIn v T (Between b e ∷ Empty ∷ [])
+unfolding outcomeIn lowest lowestFrom
+second-empty v T b e = refl
 
 before-differs : (s t : Time) → before s t ≡ true → same s t ≡ false
 unfolding before same
@@ -41,6 +42,6 @@ module _ (b e c f : Time) where
   ends true h = simp (after-differs f e h, same-refl f)
   ends false h = simp (same-refl e)
 
-  pub both-full : concluded (later (lead b 0) c 1) (sooner (lead e 0) f 1) ≡ outcome (Between b e ∷ Between c f ∷ [])
-  unfolding outcome concluded lowest lowestFrom best bestFrom
-  both-full = sym (λ i. concluded (begins (before b c) refl i) (ends (before f e) refl i))
+  pub both-full : (v : Edition) (T : ℕ) → concludedIn v T (later (lead b 0) c 1) (sooner (lead e 0) f 1) ≡ outcomeIn v T (Between b e ∷ Between c f ∷ [])
+  unfolding outcomeIn concludedIn lowest lowestFrom best bestFrom
+  both-full v T = sym (λ i. concludedIn v T (begins (before b c) refl i) (ends (before f e) refl i))

@@ -2,15 +2,19 @@
 --   emptyPlace l    the lowest place whose span is empty, or the number of spans where there is none
 --   firstOf l       the greatest begin                     lastOf l       the least end
 --   firstPlace l    the lowest place with it               lastPlace l    the lowest place with it
---   outcome l       by one: a span is empty; by two: the greatest begin exceeds the least end; otherwise from first to last, in lowest terms
-use mathlib.Core.Bool.{Bool, true, false, cond}
+--   parted e T first last    in edition e the greatest begin and the least end leave no common time: the begin exceeds the end; in edition 2, for T above zero, it is at or above it
+--   outcomeIn e T l          by one: a span is empty; by two: they are parted; otherwise from first to last, in lowest terms
+--   outcome l                that of edition 1, which asks for no limit
+use mathlib.Core.Bool.{Bool, true, false, cond, not}
 use mathlib.Core.List.{List, map}
 use Prim.Native.Nat.{ℕ}
-use lib.Dec.{ltb}
+use lib.Dec.{ltb, eqb}
 use lib.ListN.{length, getD}
 use Rattle.whole.specs.Lowest.{lowest}
 use Rattle.whole.specs.Time.{time, before, same, greatest, least, lowestTerms}
 use Rattle.whole.specs.declared.Time.{Time}
+use Rattle.span.specs.declared.Edition.{Edition}
+use Rattle.span.specs.declared.Edition.the-variants.{First, Second}
 use Rattle.span.specs.declared.Span.{Span}
 use Rattle.span.specs.declared.Span.the-variants.{Empty, Between}
 use Rattle.span.specs.declared.Lead.{Lead}
@@ -52,7 +56,14 @@ lastPlace l = lowest (λ k. same (end (spanAt l k)) (lastOf l)) (length l)
 abbrev pub lead : Time → ℕ → Lead
 lead t k = record { at = t; place = k }
 
-unfoldable pub outcome : List Span → Outcome
-outcome l =
+abbrev pub parted : Edition → ℕ → Time → Time → Bool
+parted First T first last = before last first
+parted Second T first last = cond (eqb T 0) false (not (before first last))
+
+unfoldable pub outcomeIn : Edition → ℕ → List Span → Outcome
+outcomeIn e T l =
     cond (ltb (emptyPlace l) (length l)) (ByOne (emptyPlace l))
-    (cond (before (lastOf l) (firstOf l)) (ByTwo (firstPlace l) (lastPlace l)) (FromTo (lead (lowestTerms (firstOf l)) (firstPlace l)) (lead (lowestTerms (lastOf l)) (lastPlace l))))
+    (cond (parted e T (firstOf l) (lastOf l)) (ByTwo (firstPlace l) (lastPlace l)) (FromTo (lead (lowestTerms (firstOf l)) (firstPlace l)) (lead (lowestTerms (lastOf l)) (lastPlace l))))
+
+abbrev pub outcome : List Span → Outcome
+outcome l = outcomeIn First 0 l

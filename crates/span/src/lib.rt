@@ -5,9 +5,16 @@ ghost use lib.IntN.{pos, natAbs};
 ghost use lib.Signed.{_≤ℤ_, _<ℤ_};
 ghost use Rattle.whole.specs.Within.{Within};
 ghost use Rattle.whole.specs.Time.{Short};
-ghost use Rattle.span.specs.Window.{beginAhead, endAhead, windowAhead, windowStill, window};
-ghost use Rattle.span.specs.Lead.{later, sooner, concluded, Comparable, Limited};
+ghost use Rattle.span.specs.Window.{misses, beginAhead, endAhead, windowAheadIn, windowStillIn, windowIn};
+ghost use Rattle.span.specs.Outcome.{parted};
+ghost use Rattle.span.specs.Lead.{later, sooner, concludedIn, Comparable, Limited};
 use whole::Time;
+
+// The edition of the house rule: the first counts every shared value, the second only what is shared by more than one value.
+pub enum Edition {
+    First,
+    Second,
+}
 
 // A span of times: none, or those from begin to end.
 pub enum Span {
@@ -26,6 +33,16 @@ pub enum Outcome {
     ByOne(usize),
     ByTwo(usize, usize),
     FromTo(Lead, Lead),
+}
+
+// Whether a gap from x to y parts two values.
+fn misses(edition: Edition, x: i64, y: i64) -> bool
+    ensures { λ r. ⌜ r ≡ misses edition x y ⌝ }
+{
+    match edition {
+        Edition::First => x < y,
+        Edition::Second => x <= y,
+    }
 }
 
 // When a shift that grows by w reaches lo.
@@ -60,14 +77,14 @@ fn end_at(hi: i64, w: i64, limit: i64) -> Time
 }
 
 // The times from 0 to the limit at which a shift that grows by w is from lo to hi, for w above zero.
-fn window_ahead(lo: i64, hi: i64, w: i64, limit: i64) -> Span
+fn window_ahead(edition: Edition, lo: i64, hi: i64, w: i64, limit: i64) -> Span
     requires { ⌜ Within 1500000000 lo × Within 1500000000 hi × Within 1500000000 w × (pos 0 <ℤ w) × Limited limit ⌝ }
-    ensures { λ r. ⌜ r ≡ windowAhead lo hi w (natAbs limit) ⌝ }
+    ensures { λ r. ⌜ r ≡ windowAheadIn edition lo hi w (natAbs limit) ⌝ }
 {
-    if hi < 0 {
+    if misses(edition, hi, 0) {
         return Span::Empty;
     }
-    if limit * w < lo {
+    if misses(edition, limit * w, lo) {
         return Span::Empty;
     }
     let begin = begin_at(lo, w);
@@ -76,14 +93,14 @@ fn window_ahead(lo: i64, hi: i64, w: i64, limit: i64) -> Span
 }
 
 // The same for w zero.
-fn window_still(low: i64, high: i64, limit: i64) -> Span
+fn window_still(edition: Edition, low: i64, high: i64, limit: i64) -> Span
     requires { ⌜ Limited limit ⌝ }
-    ensures { λ r. ⌜ r ≡ windowStill low high (natAbs limit) ⌝ }
+    ensures { λ r. ⌜ r ≡ windowStillIn edition low high (natAbs limit) ⌝ }
 {
-    if 0 < low {
+    if misses(edition, 0, low) {
         return Span::Empty;
     }
-    if high < 0 {
+    if misses(edition, high, 0) {
         return Span::Empty;
     }
     Span::Between(
@@ -96,17 +113,17 @@ fn window_still(low: i64, high: i64, limit: i64) -> Span
 }
 
 // The same for any w: where it is below zero, the shift is turned round.
-pub fn window(lo: i64, hi: i64, w: i64, limit: i64) -> Span
+pub fn window(edition: Edition, lo: i64, hi: i64, w: i64, limit: i64) -> Span
     requires { ⌜ Within 1500000000 lo × Within 1500000000 hi × Within 1500000000 w × Limited limit ⌝ }
-    ensures { λ r. ⌜ r ≡ window lo hi w (natAbs limit) ⌝ }
+    ensures { λ r. ⌜ r ≡ windowIn edition lo hi w (natAbs limit) ⌝ }
 {
     if 0 < w {
-        return window_ahead(lo, hi, w, limit);
+        return window_ahead(edition, lo, hi, w, limit);
     }
     if w < 0 {
-        return window_ahead(-hi, -lo, -w, limit);
+        return window_ahead(edition, -hi, -lo, -w, limit);
     }
-    window_still(lo, hi, limit)
+    window_still(edition, lo, hi, limit)
 }
 
 // The lead with the begin t at place k: it changes where t is greater.
@@ -131,14 +148,30 @@ pub fn sooner(l: Lead, t: Time, k: usize) -> Lead
     l
 }
 
+// Whether the greatest begin and the least end leave no common time.
+fn parted(edition: Edition, limit: i64, first: Time, last: Time) -> bool
+    requires { ⌜ Short first × Short last ⌝ }
+    ensures { λ r. ⌜ r ≡ parted edition (natAbs limit) first last ⌝ }
+{
+    match edition {
+        Edition::First => whole::before(last, first),
+        Edition::Second => {
+            if limit == 0 {
+                return false;
+            }
+            !whole::before(first, last)
+        }
+    }
+}
+
 // The outcome of spans none of which is empty, from the greatest begin and the least end.
-pub fn concluded(first: Lead, last: Lead) -> Outcome
+pub fn concluded(edition: Edition, first: Lead, last: Lead, limit: i64) -> Outcome
     requires { ⌜ Comparable (first .at) × Comparable (last .at) ⌝ }
-    ensures { λ r. ⌜ r ≡ concluded first last ⌝ }
+    ensures { λ r. ⌜ r ≡ concludedIn edition (natAbs limit) first last ⌝ }
 {
     let f = first.at;
     let e = last.at;
-    if whole::before(e, f) {
+    if parted(edition, limit, f, e) {
         return Outcome::ByTwo(first.place, last.place);
     }
     let begin = whole::reduced(f.n, f.d);

@@ -9,6 +9,7 @@ use lib.ListN.{length}
 use borrow.Author.Tests.{ltb-true, ltb-false}
 use Rattle.whole.specs.Within.{Within}
 use Rattle.whole.proofs.Bound.{bounds, within}
+use Rattle.span.specs.declared.Edition.the-variants.{First}
 use Rattle.span.proofs.Windows.{ShortSpan, window-short}
 use Rattle.span.proofs.Casts.{limit-short}
 use Rattle.span.proofs.Outcomes.{Made}
@@ -80,7 +81,7 @@ module _ (m : HeldMove) (f : Fit m) where
 
     span-short : ShortSpan (span (moveHeld m) k)
     unfolding span
-    span-short = window-short _ _ _ (natAbs (m .limit)) (difference-short _ _ low-a-within high-b-within) (difference-short _ _ high-a-within low-b-within) (difference-short _ _ speed-b-within speed-a-within) (limit-short (m .limit) (f .from-zero, f .to-limit))
+    span-short = window-short First _ _ _ (natAbs (m .limit)) (difference-short _ _ low-a-within high-b-within) (difference-short _ _ high-a-within low-b-within) (difference-short _ _ speed-b-within speed-a-within) (limit-short (m .limit) (f .from-zero, f .to-limit))
 
   pub spans-made : Made (natAbs (m .limit)) (spans (moveHeld m))
   spans-made =

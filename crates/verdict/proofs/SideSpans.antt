@@ -11,6 +11,7 @@ use Rattle.whole.proofs.Linear.{ints, ≤lin}
 use Rattle.whole.proofs.Members.{mem-at}
 use Rattle.whole.proofs.Tables.{table-length, table-at}
 use Rattle.span.specs.Outcome.{spanAt}
+use Rattle.span.specs.declared.Edition.the-variants.{First}
 use Rattle.span.specs.declared.Span.the-variants.{Empty}
 use Rattle.span.proofs.Windows.{Good, window-good}
 use Rattle.plane.specs.Point.{origin, dot}
@@ -48,7 +49,7 @@ module _ (m : Move) (ha : 1 ≤ length (m .a)) (hb : 1 ≤ length (m .b)) (k : �
       let D = sideOf m k in
       let a = low-le-high D (m .a) ha in
       let b = low-le-high D (m .b) hb in
-      window-good (low D (m .a) -ℤ high D (m .b)) (high D (m .a) -ℤ low D (m .b)) (dot D (m .vb) -ℤ dot D (m .va)) (natAbs (m .limit)) (gap-le (low D (m .a)) (high D (m .a)) (low D (m .b)) (high D (m .b)) a b)
+      window-good First (low D (m .a) -ℤ high D (m .b)) (high D (m .a) -ℤ low D (m .b)) (dot D (m .vb) -ℤ dot D (m .va)) (natAbs (m .limit)) (gap-le (low D (m .a)) (high D (m .a)) (low D (m .b)) (high D (m .b)) a b)
 
   pub spans-good : k < length (spans m) → Good (natAbs (m .limit)) (spanAt (spans m) k)
   spans-good h = let i : k < sideCount m = omega (arith, spans-length m) in rw (spans-at m k i) span-good

@@ -5,8 +5,8 @@ use Rattle.whole.specs.Lowest.{lowest, every}
 use Rattle.whole.specs.Best.{best}
 use Rattle.whole.specs.Time.{before, same, reduced}
 use Rattle.whole.specs.Table.{table}
-use Rattle.span.specs.Window.{windowAhead, windowStill, window}
-use Rattle.span.specs.Outcome.{outcome}
+use Rattle.span.specs.Window.{windowAheadIn, windowStillIn, windowIn}
+use Rattle.span.specs.Outcome.{outcomeIn}
 use Rattle.plane.specs.Point.{cross, dot}
 use Rattle.plane.specs.Interval.{low, high, shares, touches}
 use Rattle.plane.specs.Inside.{inside, meet}
@@ -21,5 +21,5 @@ use Rattle.verdict.specs.Answer.{answerUnless, answer}
 use Rattle.verdict.specs.Cases.{Case, cases}
 
 pub worked : map (λ (c : Case). answer (c .asked)) cases ≡ map (λ (c : Case). c .answered) cases
-unfolding lowest every best before same reduced cross dot low high shares touches inside meet left badEdge isSound firstThatApplies counted placed sideOf windowAhead windowStill window span table spans cornerInside edgesMeet meetingPair showingOf showing outcome verdict refusal carriedBy carried answerUnless answer
+unfolding lowest every best before same reduced cross dot low high shares touches inside meet left badEdge isSound firstThatApplies counted placed sideOf windowAheadIn windowStillIn windowIn span table spans cornerInside edgesMeet meetingPair showingOf showing outcomeIn verdict refusal carriedBy carried answerUnless answer
 worked = refl

@@ -14,6 +14,7 @@ ghost use Rattle.verdict.specs.Verdict.{touchingSide};
 use moves::HeldMove;
 use outline::Interval;
 use plane::Corner;
+use span::Edition;
 use span::Lead;
 use span::Outcome;
 use span::Span;
@@ -73,6 +74,7 @@ fn window_of(p: Projections, va: Corner, vb: Corner, limit: i64) -> Span
     let speed_a = plane::dot(d, va);
     let speed_b = plane::dot(d, vb);
     span::window(
+        Edition::First,
         on_a.low - on_b.high,
         on_a.high - on_b.low,
         speed_b - speed_a,
@@ -121,7 +123,7 @@ pub fn outcome(m: HeldMove) -> Outcome
         last = span::sooner(last, end, k);
         k += 1;
     }
-    span::concluded(first, last)
+    span::concluded(Edition::First, first, last, m.limit)
 }
 
 // Whether the two intervals of a side share exactly one value.

@@ -3,6 +3,7 @@ use mathlib.Core.Path.{sym, _∙_, ap, subst}
 use native.Mathlib.Omega.{arith}
 use lib.IntN.{natAbs}
 use borrow.Author.Needs.{needs}
+use Rattle.span.specs.declared.Edition.the-variants.{First}
 use Rattle.span.proofs.Outcomes.{Timed, outcome-timed}
 use Rattle.rectangle.specs.Worked.{twoSpans, workedFrom, worked}
 use Rattle.rectangle.proofs.TwoSpans.{two-made}
@@ -26,7 +27,7 @@ contact-requires : tie.Need-contact-requires
 contact-requires c κs =
     let s = c .before .before .before .before in
     let m = s .args .m in
-    (s .pre, subst Timed (sym (c .before .before .before .outcome .ensures) ∙ c .before .o3 .given .1) (outcome-timed (natAbs (m .limit)) (twoSpans m) (omega arith) (two-made m (s .pre))) .0)
+    (s .pre, subst Timed (sym (c .before .before .before .outcome .ensures) ∙ c .before .o3 .given .1) (outcome-timed First 0 (natAbs (m .limit)) (twoSpans m) (omega arith) (two-made m (s .pre))) .0)
 
 returns : tie.Need-returns
 unfolding worked

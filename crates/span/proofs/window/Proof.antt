@@ -12,7 +12,7 @@ use Rattle.whole.proofs.Bound.{bounds, fits, within}
 use Rattle.whole.proofs.Parts.{P-neg, N-neg}
 use Rattle.whole.proofs.Ring.{reps, by-ring}
 use Rattle.whole.proofs.Linear.{ints}
-use Rattle.span.specs.Window.{window}
+use Rattle.span.specs.Window.{windowIn}
 use Rattle.span.proofs.window.Statement.{statement}
 use Rattle.span.proofs.window.Tie as tie
 use Rattle.span.proofs.window.Reads as reads
@@ -34,7 +34,7 @@ window-ahead-requires : tie.Need-window-ahead-requires
 window-ahead-requires c κs = search needs
 
 returns : tie.Need-returns
-unfolding window
+unfolding windowIn
 returns c =
     let s = c .before .before in
     let ahead : ltZ (pos 0) (s .args .w) ≡ true = ap (ltZ (pos 0)) (sym (toZ-ofZ (s .fits .w))) ∙ c .before .if1 .taken in
@@ -62,7 +62,7 @@ window-ahead-requires-2 c κs =
     )
 
 returns-2 : tie.Need-returns-2
-unfolding window
+unfolding windowIn
 returns-2 c =
     let s = c .before .before .before in
     let at = c .before in
@@ -73,7 +73,7 @@ window-still-requires : tie.Need-window-still-requires
 window-still-requires c κs = search needs
 
 returns-3 : tie.Need-returns-3
-unfolding window
+unfolding windowIn
 returns-3 c =
     let s = c .before .before .before in
     let still : ltZ (s .args .w) (pos 0) ≡ false = ap (λ z. ltZ z (pos 0)) (sym (toZ-ofZ (s .fits .w))) ∙ c .before .if2 .left in

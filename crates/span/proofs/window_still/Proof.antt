@@ -1,42 +1,46 @@
--- Each answer is the one that the definition's own tests lead to; the limit is small and not below zero, so its cast keeps it.
+-- Each answer is the one that the definition's own tests lead to, which the calls give; the limit is small and not below zero, so its cast keeps it.
 use mathlib.Core.Path.{_≡_, sym, _∙_, ap}
-use mathlib.Core.Bool.{true, false}
 use lib.IntN.{pos}
-use lib.Signed.{ltZ}
 use mir.Facts.{toZ-ofZ}
-use Rattle.span.specs.Window.{windowStill}
+use borrow.Author.Needs.{needs}
+use Rattle.span.specs.Window.{misses, windowStillIn}
 use Rattle.span.proofs.Casts.{limit-cast}
 use Rattle.span.proofs.window_still.Statement.{statement}
 use Rattle.span.proofs.window_still.Tie as tie
 use Rattle.span.proofs.window_still.Reads as reads
 use Rattle.span.proofs.window_still.Lts as lts
+use Rattle.span.proofs.misses.Reads as misses-reads
+
+misses-requires : tie.Need-misses-requires
+misses-requires c κs = search needs
+
+-- what the two calls tell is what the definition tests
+above : (c : lts.After-misses (misses-reads.Asked, misses-reads.Learnt) reads.Pre reads.Post) → misses (c .before .args .edition) (pos 0) (c .before .args .low) ≡ c .misses .result
+above c = let s = c .before in sym (c .misses .ensures ∙ ap (misses (s .args .edition) (pos 0)) (toZ-ofZ (s .fits .low)))
+
+below : (c : lts.After-misses2 (misses-reads.Asked, misses-reads.Learnt) reads.Pre reads.Post) → misses (c .before .before .before .args .edition) (c .before .before .before .args .high) (pos 0) ≡ c .misses2 .result
+below c = let s = c .before .before .before in sym (c .misses2 .ensures ∙ ap (λ z. misses (s .args .edition) z (pos 0)) (toZ-ofZ (s .fits .high)))
 
 returns : tie.Need-returns
-unfolding windowStill
-returns c =
-    let s = c .before in
-    let above : ltZ (pos 0) (s .args .low) ≡ true = ap (ltZ (pos 0)) (sym (toZ-ofZ (s .fits .low))) ∙ c .if1 .taken in
-    rw above
+unfolding windowStillIn
+returns c = rw (above (c .before) ∙ c .if1 .taken)
 
-not-above : (c : lts.Else1 reads.Pre reads.Post) → ltZ (pos 0) (c .before .args .low) ≡ false
-not-above c = ap (ltZ (pos 0)) (sym (toZ-ofZ (c .before .fits .low))) ∙ c .if1 .left
+misses-requires-2 : tie.Need-misses-requires-2
+misses-requires-2 c κs = search needs
 
 returns-2 : tie.Need-returns-2
-unfolding windowStill
-returns-2 c =
-    let s = c .before .before in
-    let below : ltZ (s .args .high) (pos 0) ≡ true = ap (λ z. ltZ z (pos 0)) (sym (toZ-ofZ (s .fits .high))) ∙ c .if2 .taken in
-    rw (not-above (c .before), below)
+unfolding windowStillIn
+returns-2 c = let at = c .before .before in rw (above (at .before) ∙ at .if1 .left, below (c .before) ∙ c .if2 .taken)
 
-cast-t6 : tie.Need-cast-t6
-cast-t6 c = let s = c .before .before in limit-cast (s .args .limit) (s .fits .limit) (s .pre)
+cast-t8 : tie.Need-cast-t8
+cast-t8 c = let s = c .before .before .before .before in limit-cast (s .args .limit) (s .fits .limit) (s .pre)
 
 returns-3 : tie.Need-returns-3
-unfolding windowStill
+unfolding windowStillIn
 returns-3 c =
-    let s = c .before .before in
-    let not-below : ltZ (s .args .high) (pos 0) ≡ false = ap (λ z. ltZ z (pos 0)) (sym (toZ-ofZ (s .fits .high))) ∙ c .if2 .left in
-    rw (not-above (c .before), not-below, toZ-ofZ (s .fits .limit))
+    let at = c .before .before in
+    let s = at .before .before in
+    rw (above (at .before) ∙ at .if1 .left, below (c .before) ∙ c .if2 .left, toZ-ofZ (s .fits .limit))
 
 pub window-still-spec : {M : Type 1} → statement M
-window-still-spec = tie.close (tie.spec returns returns-2 cast-t6 returns-3)
+window-still-spec = tie.close (tie.spec misses-requires returns misses-requires-2 returns-2 cast-t8 returns-3)

@@ -2,6 +2,7 @@
 use mathlib.Core.Path.{sym, _∙_, ap, subst}
 use lib.IntN.{natAbs}
 use borrow.Author.Needs.{needs}
+use Rattle.span.specs.declared.Edition.the-variants.{First}
 use Rattle.span.proofs.Outcomes.{Timed, outcome-timed}
 use Rattle.moves.specs.HeldMove.{moveHeld}
 use Rattle.verdict.specs.Span.{spans}
@@ -26,7 +27,7 @@ contact-requires : tie.Need-contact-requires
 contact-requires c κs =
     let s = c .before .before .before .before in
     let m = s .args .m in
-    (s .pre, subst Timed (sym (c .before .before .before .outcome .ensures) ∙ c .before .o3 .given .1) (outcome-timed (natAbs (m .limit)) (spans (moveHeld m)) (spans-some m (s .pre)) (spans-made m (s .pre))) .0)
+    (s .pre, subst Timed (sym (c .before .before .before .outcome .ensures) ∙ c .before .o3 .given .1) (outcome-timed First 0 (natAbs (m .limit)) (spans (moveHeld m)) (spans-some m (s .pre)) (spans-made m (s .pre))) .0)
 
 returns : tie.Need-returns
 unfolding verdict

@@ -7,11 +7,13 @@ use borrow.Author.Needs.{needs}
 use Rattle.whole.proofs.Flags.{cond-by}
 use Rattle.whole.specs.Time.{before}
 use Rattle.span.specs.Outcome.{outcome}
-use Rattle.span.specs.Lead.{Comparable, Limited, later, sooner, concluded}
+use Rattle.span.specs.Lead.{Comparable, Limited, later, sooner, concludedIn}
+use Rattle.span.specs.declared.Edition.the-variants.{First}
 use Rattle.span.specs.declared.Lead.{Lead}
 use Rattle.span.specs.declared.Span.{Span}
 use Rattle.span.proofs.Casts.{limit-read}
 use Rattle.span.proofs.Windows.{Good, ShortSpan}
+use Rattle.span.proofs.Outcomes.{first-untimed}
 use Rattle.span.proofs.Pairs.{first-empty, second-empty, both-full}
 use Rattle.rectangle.specs.Worked.{Reaching, ax, bx, by, along}
 use Rattle.rectangle.specs.declared.Reach.{Reach}
@@ -47,7 +49,7 @@ returns c =
     let s = c .before .before .before .before .before .before in
     let limit = limit-read (s .args .m .limit) (s .pre .limited) in
     let y = sym (c .enum-told .given .1) ∙ found (c .before .before .before .before .before .reach-y .ensures) (c .before .before .before .before .reach-y2 .ensures) limit (c .before .before .along .ensures) in
-    first-empty (along (ax (s .args .m)) (bx (s .args .m)) (natAbs (s .args .m .limit))) ∙ ap (λ z. outcome (z ∷ along (ax (s .args .m)) (bx (s .args .m)) (natAbs (s .args .m .limit)) ∷ [])) y
+    first-empty First 0 (along (ax (s .args .m)) (bx (s .args .m)) (natAbs (s .args .m .limit))) ∙ ap (λ z. outcome (z ∷ along (ax (s .args .m)) (bx (s .args .m)) (natAbs (s .args .m .limit)) ∷ [])) y
 
 reach-x-requires : tie.Need-reach-x-requires
 reach-x-requires c κs = search needs
@@ -73,7 +75,7 @@ returns-2 c =
     let limit = limit-read (s .args .m .limit) (s .pre .limited) in
     let y = sym (c .before .before .before .before .before .before .before .y .given .1) ∙ found (c .before .before .before .before .before .before .before .before .before .before .before .before .reach-y .ensures) (c .before .before .before .before .before .before .before .before .before .before .before .reach-y2 .ensures) limit (c .before .before .before .before .before .before .before .before .before .along .ensures) in
     let x = sym (c .enum-told2 .given .1) ∙ found (c .before .before .before .before .before .reach-x .ensures) (c .before .before .before .before .reach-x2 .ensures) limit (c .before .before .along2 .ensures) in
-    second-empty _ _ ∙ ap₂ (λ z w. outcome (z ∷ w ∷ [])) y x
+    second-empty First 0 _ _ ∙ ap₂ (λ z w. outcome (z ∷ w ∷ [])) y x
 
 later-requires : tie.Need-later-requires
 later-requires c κs =
@@ -99,26 +101,26 @@ sooner-requires c κs =
 
 concluded-requires : tie.Need-concluded-requires
 concluded-requires c κs =
-    let s = c .before .before .before .before .before .before .before .before .before .before .before .before .before .before .before .before in
+    let s = c .before .before .before .before .before .before .before .before .before .before .before .before .before .before .before .before .before in
     let limit = limit-read (s .args .m .limit) (s .pre .limited) in
-    let y = sym (c .before .before .before .before .before .before .before .before .before .before .y .given .1) ∙ found (c .before .before .before .before .before .before .before .before .before .before .before .before .before .before .before .reach-y .ensures) (c .before .before .before .before .before .before .before .before .before .before .before .before .before .before .reach-y2 .ensures) limit (c .before .before .before .before .before .before .before .before .before .before .before .before .along .ensures) in
-    let x = sym (c .before .before .before .x .given .1) ∙ found (c .before .before .before .before .before .before .before .before .reach-x .ensures) (c .before .before .before .before .before .before .before .reach-x2 .ensures) limit (c .before .before .before .before .before .along2 .ensures) in
+    let y = sym (c .before .before .before .before .before .before .before .before .before .before .before .y .given .1) ∙ found (c .before .before .before .before .before .before .before .before .before .before .before .before .before .before .before .before .reach-y .ensures) (c .before .before .before .before .before .before .before .before .before .before .before .before .before .before .before .reach-y2 .ensures) limit (c .before .before .before .before .before .before .before .before .before .before .before .before .before .along .ensures) in
+    let x = sym (c .before .before .before .before .x .given .1) ∙ found (c .before .before .before .before .before .before .before .before .before .reach-x .ensures) (c .before .before .before .before .before .before .before .before .reach-x2 .ensures) limit (c .before .before .before .before .before .before .along2 .ensures) in
     let made = two-made (s .args .m) (s .pre) in
     let short-y = subst ShortSpan (sym y) (made .short 0 (omega arith)) in
     let short-x = subst ShortSpan (sym x) (made .short 1 (omega arith)) in
     let good-y = subst (Good (natAbs (s .args .m .limit))) (sym y) (made .good 0 (omega arith)) in
     let good-x = subst (Good (natAbs (s .args .m .limit))) (sym x) (made .good 1 (omega arith)) in (
-      subst (λ (l : Lead). Comparable (l .at)) (sym (c .before .later .ensures)) (cond-by (λ (l : Lead). Comparable (l .at)) (before _ _) _ _ (λ e. (good-x .begin-proper, short-x .0)) (λ e. (good-y .begin-proper, short-y .0))),
-      subst (λ (l : Lead). Comparable (l .at)) (sym (c .sooner .ensures)) (cond-by (λ (l : Lead). Comparable (l .at)) (before _ _) _ _ (λ e. (good-x .end-proper, short-x .1)) (λ e. (good-y .end-proper, short-y .1))),
+      subst (λ (l : Lead). Comparable (l .at)) (sym (c .before .before .later .ensures)) (cond-by (λ (l : Lead). Comparable (l .at)) (before _ _) _ _ (λ e. (good-x .begin-proper, short-x .0)) (λ e. (good-y .begin-proper, short-y .0))),
+      subst (λ (l : Lead). Comparable (l .at)) (sym (c .before .sooner .ensures)) (cond-by (λ (l : Lead). Comparable (l .at)) (before _ _) _ _ (λ e. (good-x .end-proper, short-x .1)) (λ e. (good-y .end-proper, short-y .1))),
     )
 
 returns-3 : tie.Need-returns-3
 returns-3 c =
-    let s = c .before .before .before .before .before .before .before .before .before .before .before .before .before .before .before .before .before in
+    let s = c .before .before .before .before .before .before .before .before .before .before .before .before .before .before .before .before .before .before in
     let limit = limit-read (s .args .m .limit) (s .pre .limited) in
-    let y = sym (c .before .before .before .before .before .before .before .before .before .before .before .y .given .1) ∙ found (c .before .before .before .before .before .before .before .before .before .before .before .before .before .before .before .before .reach-y .ensures) (c .before .before .before .before .before .before .before .before .before .before .before .before .before .before .before .reach-y2 .ensures) limit (c .before .before .before .before .before .before .before .before .before .before .before .before .before .along .ensures) in
-    let x = sym (c .before .before .before .before .x .given .1) ∙ found (c .before .before .before .before .before .before .before .before .before .reach-x .ensures) (c .before .before .before .before .before .before .before .before .reach-x2 .ensures) limit (c .before .before .before .before .before .before .along2 .ensures) in
-    c .concluded .ensures ∙ ap₂ concluded (c .before .before .later .ensures) (c .before .sooner .ensures) ∙ both-full _ _ _ _ ∙ ap₂ (λ z w. outcome (z ∷ w ∷ [])) y x
+    let y = sym (c .before .before .before .before .before .before .before .before .before .before .before .before .y .given .1) ∙ found (c .before .before .before .before .before .before .before .before .before .before .before .before .before .before .before .before .before .reach-y .ensures) (c .before .before .before .before .before .before .before .before .before .before .before .before .before .before .before .before .reach-y2 .ensures) limit (c .before .before .before .before .before .before .before .before .before .before .before .before .before .before .along .ensures) in
+    let x = sym (c .before .before .before .before .before .x .given .1) ∙ found (c .before .before .before .before .before .before .before .before .before .before .reach-x .ensures) (c .before .before .before .before .before .before .before .before .before .reach-x2 .ensures) limit (c .before .before .before .before .before .before .before .along2 .ensures) in
+    c .concluded .ensures ∙ ap₂ (concludedIn First _) (c .before .before .before .later .ensures) (c .before .before .sooner .ensures) ∙ both-full _ _ _ _ First _ ∙ first-untimed _ _ ∙ ap₂ (λ z w. outcome (z ∷ w ∷ [])) y x
 
 pub outcome-spec : {M : Type 1} → statement M
 outcome-spec =

@@ -10,9 +10,11 @@ use mir.Val.{SFits}
 use mir.Facts.{toZ-ofZ}
 use Rattle.whole.proofs.Bound.{bounds, fits}
 use Rattle.span.specs.Outcome.{spanAt}
+use Rattle.span.specs.declared.Edition.the-variants.{First}
 use Rattle.span.specs.declared.Span.the-variants.{Between}
 use Rattle.span.proofs.Windows.{ShortSpan}
 use Rattle.span.proofs.Casts.{limit-within, limit-cast, limit-short}
+use Rattle.span.proofs.Outcomes.{first-untimed}
 use Rattle.span.proofs.Leading.{Leading, leading-start, leading-step, leading-empty, leading-end}
 use Rattle.moves.specs.HeldMove.{Fit, moveHeld}
 use Rattle.verdict.specs.Span.{spans}
@@ -83,7 +85,7 @@ returns : tie.Need-returns Inv-loop μ-loop
 returns c =
     let at = c .before .before in
     let loop = at .before .before .loop in
-    leading-empty (natAbs (m at .limit)) (spans (moveHeld (m at))) (spans-made (m at) (fit at)) (loop .k) (loop .first) (loop .last) (loop .inv .1) (below at) (sym (c .enum-told .given .1) ∙ found at)
+    leading-empty (natAbs (m at .limit)) (spans (moveHeld (m at))) (spans-made (m at) (fit at)) (loop .k) (loop .first) (loop .last) (loop .inv .1) First 0 (below at) (sym (c .enum-told .given .1) ∙ found at)
 
 -- the begin and the end that were found
 module _ (c : lts.After-s (span-reads.Asked, span-reads.Learnt, later-reads.Asked, later-reads.Learnt, sooner-reads.Asked, sooner-reads.Learnt, concluded-reads.Asked, concluded-reads.Learnt) reads.Pre reads.Post Inv-loop μ-loop) where
@@ -121,15 +123,15 @@ loop-again c =
 
 concluded-requires : tie.Need-concluded-requires Inv-loop μ-loop
 concluded-requires c κs =
-    let g = c .before .loop .inv .1 in
+    let g = c .before .before .loop .inv .1 in
     (g .begins .comparable, g .ends .comparable)
 
 returns-2 : tie.Need-returns-2 Inv-loop μ-loop
 returns-2 c =
-    let at = c .before .before in
+    let at = c .before .before .before in
     let s = at .before .before .before .before .before .before .before in
     let m = s .args .m in
-    c .concluded .ensures ∙ leading-end (natAbs (m .limit)) (spans (moveHeld m)) (spans-made m (s .pre)) (at .loop .k) (at .loop .first) (at .loop .last) (at .loop .inv .1) (spans-some m (s .pre)) (omega (arith, sideCount-is m (s .pre), spans-length (moveHeld m)))
+    c .concluded .ensures ∙ leading-end (natAbs (m .limit)) (spans (moveHeld m)) (spans-made m (s .pre)) (at .loop .k) (at .loop .first) (at .loop .last) (at .loop .inv .1) (spans-some m (s .pre)) (omega (arith, sideCount-is m (s .pre), spans-length (moveHeld m))) First _ ∙ first-untimed _ (spans (moveHeld m))
 
 pub outcome-spec : {M : Type 1} → statement M
 outcome-spec =
