@@ -1,4 +1,4 @@
--- What parts two values in either edition: more does where the gap is wider, the same where all is multiplied by one number above zero, and the gap of the negatives is the gap turned round. Each law is stated of any edition; only here the two are told apart.
+-- What falls short in either edition: so does less of more; the test is the same where both numbers are multiplied by one above zero, and turned round where both are. Each law is stated of any edition, so that no other file of windows has to tell the two apart.
 use mathlib.Core.Path.{_≡_, refl, sym, _∙_, ap₂}
 use mathlib.Core.Bool.{Bool, true, false}
 use lib.IntN.{ℤ, pos, negℤ, _*ℤ_, +ℤ-idr}

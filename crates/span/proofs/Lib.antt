@@ -1,8 +1,10 @@
 pub mod Casts
 pub mod Editions
 pub mod Windows
+pub mod InnerWindows
 pub mod Firsts
 pub mod Outcomes
+pub mod InnerOutcomes
 pub mod Pairs
 pub mod Leading
 pub mod Alike

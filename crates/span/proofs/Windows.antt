@@ -4,20 +4,20 @@ use mathlib.Core.Bool.{Bool, true, false}
 use mathlib.Core.Logic.{_↔_, _⊎_, _≢_, inl, inr, ⊎-elim}
 use mathlib.Core.List.{[], _∷_}
 use Prim.Native.Nat.{ℕ, zero, suc, _*_, _^_, _≤_, _<_, min, max}
-use native.Mathlib.Nat.{mul-le-mul-right, mul-lt-mul-of-pos-right, eq-of-mul-eq-mul-right}
+use native.Mathlib.Nat.{mul-le-mul-right, eq-of-mul-eq-mul-right}
 use native.Mathlib.Omega.{arith}
 use lib.Dec.{ltb}
 use lib.IntN.{ℤ, pos, negsuc, negℤ, natAbs, _+ℤ_, _-ℤ_, _*ℤ_, *ℤ-comm}
-use lib.Signed.{_≤ℤ_, _<ℤ_, ltZ}
+use lib.Signed.{_≤ℤ_}
 use borrow.Author.Tests.{ltb-true, ltb-false, lt-ltb, le-ltb}
 use Rattle.whole.specs.Time.{time, before, Proper, Short}
 use Rattle.whole.specs.declared.Time.{Time}
 use Rattle.whole.proofs.Flags.{cond-by}
-use Rattle.whole.proofs.Parts.{P, P-neg, N-neg, split, diff}
+use Rattle.whole.proofs.Parts.{P, P-neg, split, diff}
 use Rattle.whole.proofs.Bound.{abs-neg}
 use Rattle.whole.proofs.Ring.{reps, by-ring}
 use Rattle.whole.proofs.Linear.{ints, lin≤, ≤lin, lin≡, ≡lin}
-use Rattle.whole.proofs.Order.{mul-≤, mul-<}
+use Rattle.whole.proofs.Order.{mul-≤}
 use Rattle.whole.proofs.Fractions.{before-irrefl, before-step}
 use Rattle.span.specs.Window.{misses, beginAhead, endAhead, windowAheadIn, windowStillIn, windowIn, window}
 use Rattle.span.specs.InSpan.{InSpan}
@@ -50,11 +50,11 @@ module _ (p q k : ℕ) (t : Time) (h : 1 ≤ q) (v : Value p q k t) where
   unfolding before
   value-ge = le-ltb (p * t .d) (t .n * q) (omega (arith, v .value))
 
-  value-begin : (n d : ℕ) → (before (time n d) t ≡ false) ↔ (p * d ≤ n * q)
+  pub value-begin : (n d : ℕ) → (before (time n d) t ≡ false) ↔ (p * d ≤ n * q)
   unfolding before
   value-begin n d = (λ e. ltb-false _ _ (before-step (time p q) t (time n d) (v .proper) value-le e), λ l. before-step t (time p q) (time n d) h value-ge (le-ltb _ _ l))
 
-  value-end : (n d : ℕ) → (before t (time n d) ≡ false) ↔ (n * q ≤ p * d)
+  pub value-end : (n d : ℕ) → (before t (time n d) ≡ false) ↔ (n * q ≤ p * d)
   unfolding before
   value-end n d = (λ e. ltb-false _ _ (before-step (time n d) t (time p q) (v .proper) e value-ge), λ l. before-step (time n d) (time p q) t h (le-ltb _ _ l) value-le)
 
@@ -133,7 +133,7 @@ min-times a b d m h k = go (ltb a b) refl
 abbrev pub Covers : ℤ → ℤ → ℤ → ℕ → ℕ → Type 0
 Covers lo hi w n d = ((pos d *ℤ lo) ≤ℤ (pos n *ℤ w)) × ((pos n *ℤ w) ≤ℤ (pos d *ℤ hi))
 
--- n/d times w is parted from them, in edition v
+-- n/d times w falls short of lo, or hi of it, in edition v
 abbrev pub Missed : Edition → ℤ → ℤ → ℤ → ℕ → ℕ → Type 0
 Missed v lo hi w n d = (misses v (pos n *ℤ w) (pos d *ℤ lo) ≡ true) ⊎ (misses v (pos d *ℤ hi) (pos n *ℤ w) ≡ true)
 
@@ -149,7 +149,7 @@ module _ (lo : ℤ) (q T n d : ℕ) (hq : 1 ≤ q) (hd : 1 ≤ d) (hn : n ≤ T 
   ahead-missed {v} {hi} (ended h) = inr (misses-wider v (pos d *ℤ hi) (pos (d * 0)) (pos d *ℤ hi) (pos (n * q)) (missed-times v d hd hi (pos 0) h) (omega ints) (omega ints))
   ahead-missed {v} {hi} (late h) = inl (misses-wider v (pos (d * (T * q))) (pos d *ℤ lo) (pos (n * q)) (pos d *ℤ lo) (missed-times v d hd (pos (T * q)) lo h) (omega (ints, limit)) (omega ints))
 
-  ahead-in : {v : Edition} {hi : ℤ} {b e : Time} → Ahead v lo q T hi (Between b e) → InSpan (time n d) (Between b e) ↔ Covers lo hi (pos q) n d
+  pub ahead-in : {v : Edition} {hi : ℤ} {b e : Time} → Ahead v lo q T hi (Between b e) → InSpan (time n d) (Between b e) ↔ Covers lo hi (pos q) n d
   ahead-in (between h b e f l vb ve sb se) =
       let p = min h (T * q) in
       let from = value-begin (P lo) q (natAbs lo) b hq vb n d in
@@ -159,27 +159,27 @@ module _ (lo : ℤ) (q T n d : ℕ) (hq : 1 ≤ q) (hd : 1 ≤ d) (hn : n ≤ T 
       (λ i. let k = to .0 (i .1) in (low .1 (from .0 (i .0)), omega ints), λ c. (from .1 (low .0 (c .0)), to .1 (min-times h (T * q) d (n * q) (omega ints) limit)))
 
 -- w below zero: an order turned round
-neg-le : (a b : ℤ) → (negℤ b ≤ℤ negℤ a) ↔ (a ≤ℤ b)
+pub neg-le : (a b : ℤ) → (negℤ b ≤ℤ negℤ a) ↔ (a ≤ℤ b)
 neg-le a b = rw (split a, split b) (simp diff (omega arith))
 
 pub neg-mul : (a z : ℤ) → a *ℤ negℤ z ≡ negℤ (a *ℤ z)
 neg-mul a z = by-ring (a ∷ z ∷ []) (search reps depth 9) (search reps depth 9) tt
 
-turned : (a z b w : ℤ) → ((a *ℤ negℤ z) ≤ℤ (b *ℤ negℤ w)) ↔ ((b *ℤ w) ≤ℤ (a *ℤ z))
+pub turned : (a z b w : ℤ) → ((a *ℤ negℤ z) ≤ℤ (b *ℤ negℤ w)) ↔ ((b *ℤ w) ≤ℤ (a *ℤ z))
 turned a z b w = rw (neg-mul a z, neg-mul b w) (neg-le (b *ℤ w) (a *ℤ z))
 
 missed-turned : (v : Edition) (a z b w : ℤ) → misses v (a *ℤ negℤ z) (b *ℤ negℤ w) ≡ true → misses v (b *ℤ w) (a *ℤ z) ≡ true
 missed-turned v a z b w h = sym (ap₂ (misses v) (neg-mul a z) (neg-mul b w) ∙ misses-turned v (a *ℤ z) (b *ℤ w)) ∙ h
 
 module _ {v : Edition} {lo hi : ℤ} {T : ℕ} where
-  windowed-missed : {w : ℤ} → Windowed v lo hi T w Empty → (n d : ℕ) → 1 ≤ d → n ≤ T * d → Missed v lo hi w n d
+  pub windowed-missed : {w : ℤ} → Windowed v lo hi T w Empty → (n d : ℕ) → 1 ≤ d → n ≤ T * d → Missed v lo hi w n d
   windowed-missed (forth q hq a) n d hd hn = ahead-missed lo q T n d hq hd hn a
   windowed-missed (back k a) n d hd hn =
       ⊎-elim (λ h. inr (missed-turned v (pos n) (negsuc k) (pos d) hi h)) (λ h. inl (missed-turned v (pos d) lo (pos n) (negsuc k) h)) (ahead-missed (negℤ hi) (suc k) T n d (omega arith) hd hn a)
   windowed-missed (above h) n d hd hn = inl (misses-wider v (pos (d * 0)) (pos d *ℤ lo) (pos (n * 0)) (pos d *ℤ lo) (missed-times v d hd (pos 0) lo h) (omega ints) (omega ints))
   windowed-missed (below h) n d hd hn = inr (misses-wider v (pos d *ℤ hi) (pos (d * 0)) (pos d *ℤ hi) (pos (n * 0)) (missed-times v d hd hi (pos 0) h) (omega ints) (omega ints))
 
-  windowed-in : {w : ℤ} {b e : Time} → Windowed v lo hi T w (Between b e) → (n d : ℕ) → 1 ≤ d → n ≤ T * d → InSpan (time n d) (Between b e) ↔ Covers lo hi w n d
+  pub windowed-in : {w : ℤ} {b e : Time} → Windowed v lo hi T w (Between b e) → (n d : ℕ) → 1 ≤ d → n ≤ T * d → InSpan (time n d) (Between b e) ↔ Covers lo hi w n d
   unfolding before
   windowed-in (forth q hq a) n d hd hn = ahead-in lo q T n d hq hd hn a
   windowed-in (back k a) n d hd hn =
@@ -206,12 +206,12 @@ window-is lo hi w T = windowed-is (windowed First lo hi w T)
 
 -- ---- intervals from la to ha and from lb to hb that move by va and vb: the window between the gaps of their ends holds the times at which they share a value
 module _ (d n a b v w : ℤ) where
-  gather-low : ((d *ℤ a +ℤ n *ℤ v) ≤ℤ (d *ℤ b +ℤ n *ℤ w)) ↔ ((d *ℤ (a -ℤ b)) ≤ℤ (n *ℤ (w -ℤ v)))
+  pub gather-low : ((d *ℤ a +ℤ n *ℤ v) ≤ℤ (d *ℤ b +ℤ n *ℤ w)) ↔ ((d *ℤ (a -ℤ b)) ≤ℤ (n *ℤ (w -ℤ v)))
   gather-low =
       let ρ = d ∷ n ∷ a ∷ b ∷ v ∷ w ∷ [] in
       (λ h. ≤lin ρ (search reps depth 12) tt (omega (arith, lin≤ ρ (search reps depth 12) tt h)), λ h. ≤lin ρ (search reps depth 12) tt (omega (arith, lin≤ ρ (search reps depth 12) tt h)))
 
-  gather-high : ((d *ℤ b +ℤ n *ℤ w) ≤ℤ (d *ℤ a +ℤ n *ℤ v)) ↔ ((n *ℤ (w -ℤ v)) ≤ℤ (d *ℤ (a -ℤ b)))
+  pub gather-high : ((d *ℤ b +ℤ n *ℤ w) ≤ℤ (d *ℤ a +ℤ n *ℤ v)) ↔ ((n *ℤ (w -ℤ v)) ≤ℤ (d *ℤ (a -ℤ b)))
   gather-high =
       let ρ = d ∷ n ∷ a ∷ b ∷ v ∷ w ∷ [] in
       (λ h. ≤lin ρ (search reps depth 12) tt (omega (arith, lin≤ ρ (search reps depth 12) tt h)), λ h. ≤lin ρ (search reps depth 12) tt (omega (arith, lin≤ ρ (search reps depth 12) tt h)))

@@ -1,7 +1,7 @@
 -- What is kept while the spans of a list are worked one by one: the greatest begin and the least end so far, each with the lowest place that has it.
 --   later l t k              the lead l after the begin t at place k: it changes where t is greater
 --   sooner l t k             the lead l after the end t at place k: it changes where t is less
---   concludedIn e T first last    the outcome of two leads in edition e, with the limit T; concluded is that of edition 1
+--   concludedIn e T first last    the outcome of two leads in edition e, with the limit T
 --   Comparable t             t can be compared and brought to lowest terms: its d is at least 1, and n and d fit four bytes each
 --   Limited T                T is a time limit: from 0 to 10,000
 use mathlib.Core.Bool.{cond}
@@ -12,7 +12,6 @@ use Rattle.whole.specs.Time.{before, lowestTerms, Proper, Short}
 use Rattle.whole.specs.declared.Time.{Time}
 use Rattle.span.specs.Outcome.{lead, parted}
 use Rattle.span.specs.declared.Edition.{Edition}
-use Rattle.span.specs.declared.Edition.the-variants.{First}
 use Rattle.span.specs.declared.Lead.{Lead}
 use Rattle.span.specs.declared.Outcome.{Outcome}
 use Rattle.span.specs.declared.Outcome.the-variants.{ByTwo, FromTo}
@@ -27,9 +26,6 @@ unfoldable pub concludedIn : Edition → ℕ → Lead → Lead → Outcome
 concludedIn e T first last =
     cond (parted e T (first .at) (last .at)) (ByTwo (first .place) (last .place))
     (FromTo (lead (lowestTerms (first .at)) (first .place)) (lead (lowestTerms (last .at)) (last .place)))
-
-abbrev pub concluded : Lead → Lead → Outcome
-concluded = concludedIn First 0
 
 abbrev pub Comparable : Time → Type 0
 Comparable t = Proper t × Short t

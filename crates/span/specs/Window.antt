@@ -1,5 +1,5 @@
 -- The times at which a shift that grows by w per unit of time is from lo to hi, in either edition of the house rule.
---   misses e x y              in edition e a gap from x to y parts two values: the first asks for x < y, the second for x ≤ y
+--   misses e x y              x falls short of y: in edition 1 where x < y, in edition 2 where x ≤ y already
 --   windowIn e lo hi w T      in edition 1 the times s from 0 to T with lo ≤ s w ≤ hi; in edition 2 those with lo < s w < hi, for lo < hi, by their greatest lower
 --                             and least upper bound, which need not belong to them; for T zero they are the one time zero, or none
 --   window lo hi w T          that of edition 1

@@ -10,7 +10,7 @@ ghost use Rattle.span.specs.Outcome.{parted};
 ghost use Rattle.span.specs.Lead.{later, sooner, concludedIn, Comparable, Limited};
 use whole::Time;
 
-// The edition of the house rule: the first counts every shared value, the second only what is shared by more than one value.
+// The edition of the house rule: for the first a single shared value counts, for the second only more than one.
 pub enum Edition {
     First,
     Second,
@@ -35,7 +35,7 @@ pub enum Outcome {
     FromTo(Lead, Lead),
 }
 
-// Whether a gap from x to y parts two values.
+// Whether x falls short of y: in the second edition it does where they are equal too.
 fn misses(edition: Edition, x: i64, y: i64) -> bool
     ensures { λ r. ⌜ r ≡ misses edition x y ⌝ }
 {

@@ -1,9 +1,8 @@
 -- Each arm is the definition's own test of its edition.
-use mathlib.Core.Path.{_∙_, ap, ap₂}
+use mathlib.Core.Path.{ap₂}
 use lib.Signed.{ltZ, leZ}
 use mir.Facts.{toZ-ofZ}
 use borrow.Author.Needs.{needs}
-use Rattle.span.specs.Window.{misses}
 use Rattle.span.proofs.misses.Statement.{statement}
 use Rattle.span.proofs.misses.Tie as tie
 
