@@ -11,6 +11,7 @@ use Rattle.log.proofs.Stepping.{same-step}
 use Rattle.checker.proofs.answer_line.Reads as answer-line
 use Rattle.checker.proofs.answer_lists.Reads as answer-lists
 use Rattle.checker.proofs.answer_rectangles.Reads as answer-rectangles
+use Rattle.checker.proofs.answer_edition.Reads as answer-edition
 use Rattle.checker.proofs.write_move.Reads as write-move
 use Rattle.checker.proofs.write_rectangles.Reads as write-rectangles
 use Rattle.checker.proofs.read_line.Reads as read-line
@@ -27,6 +28,9 @@ answer-lists-determined κs = determined (λ a r e p. both (p .0) (p .1))
 
 pub answer-rectangles-determined : (κs : Lfts 3) → Determined {Y = Written × List ℕ} (answer-rectangles.Learnt κs) (λ r e. (r, now (e .1 .1 .1 .1 .1 .0)))
 answer-rectangles-determined κs = determined (λ a r e p. both (p .0) (p .1))
+
+pub answer-edition-determined : (κs : Lfts 2) → Determined (answer-edition.Learnt κs) (λ r e. r)
+answer-edition-determined κs = determined (λ a r e p. p)
 
 pub write-move-determined : (κs : Lfts 3) → Determined {Y = Written × List ℕ} (write-move.Learnt κs) (λ r e. (r, now (e .1 .1 .1 .1 .1 .0)))
 write-move-determined κs = determined (λ a r e p. both (p .0) (p .1))

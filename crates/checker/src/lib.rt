@@ -2,6 +2,7 @@
 ghost use mathlib.Core.Path.{_≡_};
 ghost use Rattle.outline.specs.declared.Refusal.the-variants.{Plain};
 ghost use Rattle.verdict.specs.Answer.{answerOfLists};
+ghost use Rattle.verdict.specs.Editions.{answerIn};
 ghost use Rattle.rectangle.specs.Reading as rectangles;
 ghost use Rattle.moveline.specs.Reading.{readingOfLine};
 ghost use Rattle.rectangleline.specs.Reading as second;
@@ -18,6 +19,7 @@ use moves::Reading;
 use outline::Refusal;
 use plane::Corner;
 use rectangle::RectangleReading;
+use verdict::editions::EditionAnswer;
 
 // The longest answer line, the longest move line and the line of a move of rectangles, with their 0a.
 const ANSWER_ROOM: usize = 45;
@@ -79,6 +81,20 @@ pub fn answer_rectangles(
         return no_room();
     }
     frame::put_answer_of_rectangles(a, b, va, vb, limit, out)
+}
+
+// The answer to a move handed in as numbers in the edition of the house rule that is named: 11 where that is neither 1 nor 2, then 4 to 9.
+pub fn answer_edition(
+    edition: u64,
+    a: &[i64],
+    b: &[i64],
+    va: Corner,
+    vb: Corner,
+    limit: i64,
+) -> EditionAnswer
+    ensures { λ r. ⌜ r ≡ answerIn edition (now (a .entry)) (now (b .entry)) va vb limit ⌝ }
+{
+    verdict::editions::answer_of_lists(edition, a, b, va, vb, limit)
 }
 
 // The line of a move handed in as numbers, into `out`: refusal 1 where fewer than 283 bytes are lent, then 4 to 9; a refusal writes nothing.

@@ -86,7 +86,7 @@ module _ (h : HeldMove) (f : Fit h) where
   side-few t =
       let few-a = f .held-a .kept .count in
       let few-b = f .held-b .kept .count in
-      omega (arith, lowest-bound t (length l), spans-length (moveHeld h), sideCount-is h f)
+      omega (arith, lowest-bound t (length l), spans-length First (moveHeld h), sideCount-is h f)
 
   touching-few : touchingSide (moveHeld h) < 256
   touching-few =
@@ -107,8 +107,8 @@ module _ (h : HeldMove) (f : Fit h) where
   pub sayable-verdict : Sayable (verdict (moveHeld h))
   unfolding verdict
   sayable-verdict =
-      outcome-by (natAbs (h .limit)) l (spans-some h f) (spans-made h f .good) First 0 (λ o. Timed o → Sayable (verdictFrom (moveHeld h) o)) (λ i e t. side-few _) (λ a e t. (side-few _, side-few _)) (λ a e t. sayable-contact (lead (lowestTerms (firstOf l)) (firstPlace l)) (lead (lowestTerms (lastOf l)) (lastPlace l)) (side-few _) t)
-      (outcome-timed First 0 (natAbs (h .limit)) l (spans-some h f) (spans-made h f))
+      outcome-by (natAbs (h .limit)) l (spans-some h f First) (spans-made h f First .good) First 0 (λ o. Timed o → Sayable (verdictFrom (moveHeld h) o)) (λ i e t. side-few _) (λ a e t. (side-few _, side-few _)) (λ a e t. sayable-contact (lead (lowestTerms (firstOf l)) (firstPlace l)) (lead (lowestTerms (lastOf l)) (lastPlace l)) (side-few _) t)
+      (outcome-timed First 0 (natAbs (h .limit)) l (spans-some h f First) (spans-made h f First))
 
 -- ---- the answers
 pub sayable-reading : (r : Reading) → Readable r → Sayable (answerBy (r .refusal) (moveHeld (r .held)))

@@ -105,12 +105,12 @@ module _ (m : Move) (wa : Wide (m .a)) (wb : Wide (m .b)) where
     first-reduced = reduced-reduced (firstOf (spans m) .n) (firstOf (spans m) .d) (first-proper (spans m) a)
 
     place : firstPlace (spans m) < sideCount m
-    place = omega (arith, firstPlace-at (spans m) a .0, spans-length m)
+    place = omega (arith, firstPlace-at (spans m) a .0, spans-length First m)
 
     above-touch : first .n ≢ 0 → TouchAt m (firstPlace (spans m)) (first .n) (first .d)
     above-touch above =
         let k = firstPlace (spans m) in
-        let e : firstOf (spans m) ≡ begin (span m k) = firstPlace-at (spans m) a .1 ∙ ap begin (spans-at m k place) in
+        let e : firstOf (spans m) ≡ begin (span m k) = firstPlace-at (spans m) a .1 ∙ ap begin (spans-at First m k place) in
         let some : firstOf (spans m) .n ≢ 0 = λ z. above (omega (arith, reduced-bound (firstOf (spans m) .n) (firstOf (spans m) .d))) in
         ends-one (sideOf m k) _ _ (long-a (first .n) (first .d)) (long-b (first .n) (first .d))
         (one-value m wa wb k place first (first-reduced .proper) (subst (λ t. first .n * t .d ≡ t .n * first .d) e (reduced-same (firstOf (spans m) .n) (firstOf (spans m) .d))) (subst (λ t. t .n ≢ 0) e some))
@@ -120,7 +120,7 @@ module _ (m : Move) (wa : Wide (m .a)) (wb : Wide (m .b)) where
     zero-shares z k h =
         let none : firstOf (spans m) .n ≡ 0 = zero-n (firstOf (spans m) .n) (firstOf (spans m) .d) (first .d) (first-reduced .proper) (sym (reduced-same (firstOf (spans m) .n) (firstOf (spans m) .d)) ∙ ap (λ n. n * firstOf (spans m) .d) z) in
         let all = in-all (spans m) a (time 0 1) (omega arith) .1 (zero-before (firstOf (spans m)) none, before-zero (lastOf (spans m))) in
-        spans-is m wa wb 0 1 (omega arith, omega arith) k h .0 (all k (omega (arith, spans-length m)))
+        spans-is m wa wb 0 1 (omega arith, omega arith) k h .0 (all k (omega (arith, spans-length First m)))
 
     -- ---- the bearing, by its two cases
     abbrev evidence : Time → Showing → Evidence
@@ -165,7 +165,7 @@ two-contact i j e is = let z : _≡_ {A = ℕ} 0 1 = cc in omega arith
 pub bears-wide : (m : Move) → Wide (m .a) → Wide (m .b) → (e : Evidence) → verdict m ≡ Contact e → BearingPromise m e
 unfolding verdict
 bears-wide m wa wb =
-    outcome-by (natAbs (m .limit)) (spans m) (omega (arith, spans-length m, wa .some)) (spans-good m (wa .some) (wb .some)) First 0 (λ o. (e : Evidence) → verdictFrom m o ≡ Contact e → BearingPromise m e)
+    outcome-by (natAbs (m .limit)) (spans m) (omega (arith, spans-length First m, wa .some)) (spans-good First m (wa .some) (wb .some)) First 0 (λ o. (e : Evidence) → verdictFrom m o ≡ Contact e → BearingPromise m e)
     (λ h p e is. absurd (one-contact _ e is)) (λ a p e is. absurd (two-contact _ _ e is)) (λ a p e is. subst (BearingPromise m) (contact-same _ e is) (bears-contact m wa wb a _ _))
 
 pub bears : (m : Move) → refusal m ≡ 0 → (e : Evidence) → verdict m ≡ Contact e → BearingPromise m e

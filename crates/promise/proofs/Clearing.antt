@@ -14,6 +14,7 @@ use Rattle.plane.proofs.Intervals.{shares-no}
 use Rattle.moves.specs.Move.{Move}
 use Rattle.verdict.specs.Sides.{sideCount, sideOf, sharesAt}
 use Rattle.verdict.specs.Span.{spans}
+use Rattle.span.specs.declared.Edition.the-variants.{First}
 use Rattle.span.specs.InSpan.{InSpan}
 use Rattle.span.specs.Outcome.{begin, end, spanAt, firstOf, lastOf, firstPlace, lastPlace}
 use Rattle.promise.specs.Promise.{InTime, MeetAt, ApartAt, clear-by-one, clear-by-two, Promise}
@@ -69,7 +70,7 @@ module _ (m : Move) (wa : Wide (m .a)) (wb : Wide (m .b)) where
 
     pub promise-by-two : Promise m (ClearByTwo (firstPlace (spans m)) (lastPlace (spans m)))
     promise-by-two =
-        let i : firstPlace (spans m) < sideCount m = omega (arith, firstPlace-at (spans m) a .0, spans-length m) in
-        let j : lastPlace (spans m) < sideCount m = omega (arith, lastPlace-at (spans m) a .0, spans-length m) in
+        let i : firstPlace (spans m) < sideCount m = omega (arith, firstPlace-at (spans m) a .0, spans-length First m) in
+        let j : lastPlace (spans m) < sideCount m = omega (arith, lastPlace-at (spans m) a .0, spans-length First m) in
         clear-by-two (λ n d t. ⊎-elim (outside-never n d t (firstPlace (spans m)) i) (outside-never n d t (lastPlace (spans m)) j) (outside-two n d t)) i j
         (λ n d t. ⊎-elim (λ o. inl (outside-apart n d t (firstPlace (spans m)) i o)) (λ o. inr (outside-apart n d t (lastPlace (spans m)) j o)) (outside-two n d t))

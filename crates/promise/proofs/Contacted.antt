@@ -21,6 +21,7 @@ use Rattle.verdict.specs.Sides.{sideCount}
 use Rattle.verdict.specs.Span.{span, spans}
 use Rattle.showing.specs.Showing.{showing}
 use Rattle.verdict.specs.Answer.{showingNumbers}
+use Rattle.span.specs.declared.Edition.the-variants.{First}
 use Rattle.span.specs.Outcome.{begin, firstOf, lastOf, firstPlace}
 use Rattle.promise.specs.Promise.{InTime, MeetAt, ShownBy, PromiseIn}
 use Rattle.verdict.proofs.SideSpans.{spans-length, spans-at, spans-good}
@@ -51,10 +52,10 @@ module _ (m : Move) (wa : Wide (m .a)) (wb : Wide (m .b)) (a : AllFull (spans m)
   last-reduced = reduced-reduced _ _ (last-proper (spans m) a)
 
   first-in-time : InTime m (first .n) (first .d)
-  first-in-time = in-time m first (first-reduced .proper) (before-lowestTerms (firstOf (spans m)) (first-proper (spans m) a) _ ∙ first-limited (natAbs (m .limit)) (spans m) (spans-good m (wa .some) (wb .some)) a)
+  first-in-time = in-time m first (first-reduced .proper) (before-lowestTerms (firstOf (spans m)) (first-proper (spans m) a) _ ∙ first-limited (natAbs (m .limit)) (spans m) (spans-good First m (wa .some) (wb .some)) a)
 
   last-in-time : InTime m (last .n) (last .d)
-  last-in-time = in-time m last (last-reduced .proper) (before-lowestTerms (lastOf (spans m)) (last-proper (spans m) a) _ ∙ last-limited (natAbs (m .limit)) (spans m) (spans-good m (wa .some) (wb .some)) a)
+  last-in-time = in-time m last (last-reduced .proper) (before-lowestTerms (lastOf (spans m)) (last-proper (spans m) a) _ ∙ last-limited (natAbs (m .limit)) (spans m) (spans-good First m (wa .some) (wb .some)) a)
 
   -- the outlines meet at the times from first to last, and at no other
   meet-from-to : (n d : ℕ) → InTime m n d → MeetAt m n d ↔ ((before (time n d) first ≡ false) × (before last (time n d) ≡ false))
@@ -62,7 +63,7 @@ module _ (m : Move) (wa : Wide (m .a)) (wb : Wide (m .b)) (a : AllFull (spans m)
       let all = in-all (spans m) a (time n d) (t .0) in
       let meet = meet-spans m wa wb n d t in
       rw (before-lowestTerms (firstOf (spans m)) (first-proper (spans m) a) (time n d), lowestTerms-before (lastOf (spans m)) (last-proper (spans m) a) (time n d))
-      (λ c. all .0 (λ k h. meet .0 c k (omega (arith, spans-length m))), λ e. meet .1 (λ k h. all .1 e k (omega (arith, spans-length m))))
+      (λ c. all .0 (λ k h. meet .0 c k (omega (arith, spans-length First m))), λ e. meet .1 (λ k h. all .1 e k (omega (arith, spans-length First m))))
 
   module _ (ordered : before (lastOf (spans m)) (firstOf (spans m)) ≡ false) where
     in-order : before last first ≡ false
@@ -85,8 +86,8 @@ module _ (m : Move) (wa : Wide (m .a)) (wb : Wide (m .b)) (a : AllFull (spans m)
         go (yes z) = inl (omega (arith, reduced-bound (firstOf (spans m) .n) (firstOf (spans m) .d)))
         go (no above) =
             let s = firstPlace-at (spans m) a in
-            let h : firstPlace (spans m) < sideCount m = omega (arith, spans-length m) in
-            let e : firstOf (spans m) ≡ begin (span m (firstPlace (spans m))) = s .1 ∙ ap begin (spans-at m (firstPlace (spans m)) h) in
+            let h : firstPlace (spans m) < sideCount m = omega (arith, spans-length First m) in
+            let e : firstOf (spans m) ≡ begin (span m (firstPlace (spans m))) = s .1 ∙ ap begin (spans-at First m (firstPlace (spans m)) h) in
             inr (touch-corner m wa wb (firstPlace (spans m)) h first (first-in-time .0) (subst (λ t. first .n * t .d ≡ t .n * first .d) e (reduced-same (firstOf (spans m) .n) (firstOf (spans m) .d))) (subst (λ t. t .n ≢ 0) e above) first-meets)
 
     pub promise-contact : (b : ℕ) → PromiseIn m 2 (first .n ∷ first .d ∷ last .n ∷ last .d ∷ []) (b ∷ showingNumbers (showing m first))

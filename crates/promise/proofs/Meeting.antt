@@ -16,6 +16,7 @@ use Rattle.plane.proofs.CommonAt.{shares-common-at}
 use Rattle.moves.specs.Move.{Move}
 use Rattle.verdict.specs.Sides.{sideCount, sideOf, sharesAt}
 use Rattle.verdict.specs.Span.{spans}
+use Rattle.span.specs.declared.Edition.the-variants.{First}
 use Rattle.span.specs.InSpan.{InSpan}
 use Rattle.span.specs.Outcome.{spanAt}
 use Rattle.promise.specs.Promise.{InTime, MeetAt}
@@ -25,7 +26,7 @@ use Rattle.verdict.proofs.SideSpans.{spans-at}
 
 -- ---- the sides are A's edges and then B's
 module _ (m : Move) where
-  sideOf-b : (j : ℕ) → sideOf m (length (m .a) + j) ≡ side (edge (m .b) j)
+  pub sideOf-b : (j : ℕ) → sideOf m (length (m .a) + j) ≡ side (edge (m .b) j)
   sideOf-b j = side-of-b m (length (m .a) + j) (omega arith) ∙ ap (λ k. side (edge (m .b) k)) (omega arith)
 
 -- ---- at a time
@@ -39,7 +40,7 @@ module _ (m : Move) (wa : Wide (m .a)) (wb : Wide (m .b)) (n d : ℕ) where
 
   module _ (t : InTime m n d) where
     pub spans-is : (k : ℕ) → k < sideCount m → InSpan (time n d) (spanAt (spans m) k) ↔ (sharesAt m k n d ≡ true)
-    spans-is k h = rw (spans-at m k h) (span-is m k (wa .some) (wb .some) n d (t .0) (t .1))
+    spans-is k h = rw (spans-at First m k h) (span-is m k (wa .some) (wb .some) n d (t .0) (t .1))
 
     pub meet-spans : MeetAt m n d ↔ ((k : ℕ) → k < sideCount m → InSpan (time n d) (spanAt (spans m) k))
     meet-spans = (λ c k h. spans-is k h .1 (meet-sides (t .0) .0 c k h), λ f. meet-sides (t .0) .1 (λ k h. spans-is k h .0 (f k h)))

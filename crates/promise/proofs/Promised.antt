@@ -39,13 +39,13 @@ use Rattle.promise.proofs.Contacted.{promise-contact}
 -- ---- wide outlines
 module _ (m : Move) (wa : Wide (m .a)) (wb : Wide (m .b)) where
   some : 1 ≤ length (spans m)
-  some = omega (arith, spans-length m, wa .some)
+  some = omega (arith, spans-length First m, wa .some)
 
   pub promise-wide : Promise m (verdict m)
   unfolding verdict
   promise-wide =
-      outcome-by (natAbs (m .limit)) (spans m) some (spans-good m (wa .some) (wb .some)) First 0 (λ o. Promise m (verdictFrom m o))
-      (λ h e. promise-by-one m wa wb (emptyPlace (spans m)) (omega (arith, spans-length m)) e) (λ a e. promise-by-two m wa wb a e) (λ a e. promise-contact m wa wb a e _)
+      outcome-by (natAbs (m .limit)) (spans m) some (spans-good First m (wa .some) (wb .some)) First 0 (λ o. Promise m (verdictFrom m o))
+      (λ h e. promise-by-one m wa wb (emptyPlace (spans m)) (omega (arith, spans-length First m)) e) (λ a e. promise-by-two m wa wb a e) (λ a e. promise-contact m wa wb a e _)
 
 -- ---- accepted moves
 pub accepted-wide : (A : List Corner) → isSound A ≡ true → Wide A

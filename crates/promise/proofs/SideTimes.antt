@@ -12,14 +12,14 @@ use Rattle.plane.specs.Interval.{low, high}
 use Rattle.plane.proofs.Moved.{shares-moved}
 use Rattle.moves.specs.Move.{Move}
 use Rattle.verdict.specs.Sides.{sideOf, sharesAt}
-use Rattle.verdict.specs.Span.{span}
+use Rattle.verdict.specs.Span.{spanIn, span}
 use Rattle.span.specs.InSpan.{InSpan}
 use Rattle.span.proofs.Windows.{window-shares}
 
 -- ---- a side of a move whose outlines have corners
 module _ (m : Move) (k : ℕ) (ha : 1 ≤ length (m .a)) (hb : 1 ≤ length (m .b)) where
   pub span-is : (n d : ℕ) → 1 ≤ d → n ≤ natAbs (m .limit) * d → InSpan (time n d) (span m k) ↔ (sharesAt m k n d ≡ true)
-  unfolding sharesAt span
+  unfolding sharesAt spanIn
   span-is n d hd hn =
       let D = sideOf m k in
       let s = shares-moved D n d hd (m .a) (m .va) (m .b) (m .vb) ha hb in

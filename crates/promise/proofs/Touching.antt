@@ -26,7 +26,7 @@ use Rattle.plane.proofs.Shown.{ShownByCorner}
 use Rattle.plane.proofs.Touch.{touch-shown}
 use Rattle.moves.specs.Move.{Move}
 use Rattle.verdict.specs.Sides.{sideCount, sideOf}
-use Rattle.verdict.specs.Span.{span}
+use Rattle.verdict.specs.Span.{spanIn, span}
 use Rattle.span.specs.Outcome.{begin}
 use Rattle.promise.specs.Promise.{MeetAt}
 use Rattle.span.specs.declared.Edition.the-variants.{First}
@@ -62,7 +62,7 @@ module _ (m : Move) (wa : Wide (m .a)) (wb : Wide (m .b)) (k : ℕ) (h : k < sid
     -- the side's window begins where B, seen from A, has moved by the one gap or by the other
     begins : let w = dot D (m .vb) -ℤ dot D (m .va) in
         (pos (t .d) *ℤ (low D (m .a) -ℤ high D (m .b)) ≡ pos (t .n) *ℤ w) ⊎ (pos (t .d) *ℤ (high D (m .a) -ℤ low D (m .b)) ≡ pos (t .n) *ℤ w)
-    unfolding span
+    unfolding spanIn
     begins =
         let lo = low D (m .a) -ℤ high D (m .b) in
         let hi = high D (m .a) -ℤ low D (m .b) in

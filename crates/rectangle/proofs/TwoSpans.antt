@@ -16,7 +16,7 @@ use Rattle.span.proofs.Outcomes.{Made}
 use Rattle.span.proofs.Alike.{Alike, Agree, inLowest, window-scaled, window-turned, outcome-agree}
 use Rattle.moves.specs.Move.{Move}
 use Rattle.verdict.specs.Sides.{sideOf}
-use Rattle.verdict.specs.Span.{span, spans}
+use Rattle.verdict.specs.Span.{spanIn, span, spans}
 use Rattle.verdict.proofs.SideSpans.{spans-length, spans-at, spans-good, gap-le}
 use Rattle.rectangle.specs.Rectangle.{fourCorners}
 use Rattle.rectangle.specs.Refusal.{Fits}
@@ -31,7 +31,7 @@ gap-scaled : (k x y : ℤ) → k *ℤ x -ℤ k *ℤ y ≡ k *ℤ (x -ℤ y)
 gap-scaled k x y = by-ring (k ∷ x ∷ y ∷ []) (search reps depth 12) (search reps depth 12) tt
 
 seen-alike : (m : Move) (k : ℕ) (a b : Reach) → Seen m (sideOf m k) a b → Alike (span m k) (along a b (natAbs (m .limit)))
-unfolding span along
+unfolding spanIn along
 seen-alike m k a b s =
     rw (s .low-a, s .high-a, s .low-b, s .high-b, s .speed-a, s .speed-b, gap-scaled (s .factor) (a .low) (b .high), gap-scaled (s .factor) (a .high) (b .low), gap-scaled (s .factor) (b .speed) (a .speed))
     (window-scaled (s .factor) (s .above) First (a .low -ℤ b .high) (a .high -ℤ b .low) (b .speed -ℤ a .speed) (natAbs (m .limit)))
@@ -76,12 +76,12 @@ module _ (m : RectangleMove) where
         let a = reach-a m (k % 2) in
         let b = reach-b m (k % 2) in
         let T = natAbs (m .limit) in
-        rw (spans-at (fourCorners m) k h, two-at (k % 2) (omega arith))
+        rw (spans-at First (fourCorners m) k h, two-at (k % 2) (omega arith))
         (⊎-elim (seen-alike (fourCorners m) k a b) (λ s. seen-alike (fourCorners m) k (turned a) (turned b) s ∙ ap inLowest (along-turned a b T)) (side-seen m f k h))
 
     agree : Agree (spans (fourCorners m)) (twoSpans m)
     agree =
-        let all = spans-length (fourCorners m) in
+        let all = spans-length First (fourCorners m) in
         record {
           no-longer = omega (arith, all);
           first-ones = λ k h. let is : k % 2 ≡ k = omega arith in rw is at (side-alike k (omega arith));
@@ -89,4 +89,4 @@ module _ (m : RectangleMove) where
         }
 
     pub two-spans : outcome (spans (fourCorners m)) ≡ outcome (twoSpans m)
-    two-spans = outcome-agree (spans (fourCorners m)) (twoSpans m) agree First 0 (natAbs (m .limit)) (omega arith) (λ k. spans-good (fourCorners m) (omega arith) (omega arith) k) two-good
+    two-spans = outcome-agree (spans (fourCorners m)) (twoSpans m) agree First 0 (natAbs (m .limit)) (omega arith) (λ k. spans-good First (fourCorners m) (omega arith) (omega arith) k) two-good

@@ -11,6 +11,7 @@ use Rattle.whole.proofs.Determination.{determined, both, all-three}
 use Rattle.stonefruitle_c.proofs.stonefruitle_answer_line.Reads as answer-line
 use Rattle.stonefruitle_c.proofs.stonefruitle_answer_lists.Reads as answer-lists
 use Rattle.stonefruitle_c.proofs.stonefruitle_answer_rectangles.Reads as answer-rectangles
+use Rattle.stonefruitle_c.proofs.stonefruitle_answer_edition.Reads as answer-edition
 use Rattle.stonefruitle_c.proofs.stonefruitle_write_move.Reads as write-move
 use Rattle.stonefruitle_c.proofs.stonefruitle_write_rectangles.Reads as write-rectangles
 use Rattle.stonefruitle_c.proofs.stonefruitle_read_line.Reads as read-line
@@ -34,6 +35,9 @@ answer-lists-determined κs = determined (λ a r e p. all-four (p .0 .0 .0) (p .
 
 pub answer-rectangles-determined : (κs : Lfts 5) → Determined {Y = ℕ × List ℕ × ℕ × ℕ} (answer-rectangles.Learnt κs) (λ r e. (r, now (e .1 .1 .1 .1 .1 .1 .1 .0), now (e .1 .1 .1 .1 .1 .1 .1 .1 .0), now (e .1 .1 .1 .1 .1 .1 .1 .1 .1 .0)))
 answer-rectangles-determined κs = determined (λ a r e p. all-four (p .0 .0 .0) (p .1) (p .0 .1) (p .0 .0 .1))
+
+pub answer-edition-determined : (κs : Lfts 4) → Determined {Y = ℕ × List ℕ × ℕ} (answer-edition.Learnt κs) (λ r e. (r, now (e .1 .1 .1 .1 .1 .1 .1 .1 .0), now (e .1 .1 .1 .1 .1 .1 .1 .1 .1 .0)))
+answer-edition-determined κs = determined (λ a r e p. all-three (p .0 .0) (p .1) (p .0 .1))
 
 pub write-move-determined : (κs : Lfts 5) → Determined {Y = ℕ × List ℕ × ℕ × ℕ} (write-move.Learnt κs) (λ r e. (r, now (e .1 .1 .1 .1 .1 .1 .1 .0), now (e .1 .1 .1 .1 .1 .1 .1 .1 .0), now (e .1 .1 .1 .1 .1 .1 .1 .1 .1 .0)))
 write-move-determined κs = determined (λ a r e p. all-four (p .0 .0 .0) (p .1) (p .0 .1) (p .0 .0 .1))

@@ -4,15 +4,18 @@ ghost use mathlib.Core.Path.{_≡_};
 ghost use Rattle.plane.specs.Point.{point};
 ghost use Rattle.outline.specs.Tested.{tested};
 ghost use Rattle.verdict.specs.Answer.{answerOfLists};
+ghost use Rattle.verdict.specs.Editions.{answerIn};
 ghost use Rattle.rectangle.specs.Reading as rectangles;
 ghost use Rattle.rectangleline.specs.Reading as second;
 ghost use Rattle.frame.specs.AnswerOfLine.{answerOfLine, kindOfLine};
 ghost use Rattle.moveline.specs.Reading.{readingOfLine};
 ghost use Rattle.log.specs.LogLine.{entryOf};
 ghost use Rattle.stonefruitle_c.specs.Numbers.{numbers, rectangleNumbers};
+ghost use Rattle.stonefruitle_c.specs.Editions.{editionNumbers, refusalIn};
 ghost use Rattle.stonefruitle_c.specs.Kept.{keptOf, StepsOut};
 ghost use Rattle.stonefruitle_c.specs.Handed.{Hands, SpeaksOut, WritesMoveOut, WritesRectanglesOut, refusalOfKind, kindOr};
 
+mod editions; // an answer of a named edition as a list of numbers
 mod handed; // what is handed out of a refusal and of the kind of a line
 mod kept; // the number that a log keeps
 mod numbers; // a move as a list of numbers
@@ -82,6 +85,33 @@ pub extern "C" fn stonefruitle_answer_rectangles(
     let w = checker::answer_rectangles(a, b, va, vb, limit, out);
     let why = w.refusal;
     *written = w.bytes;
+    *edge = handed::edge_or(why, *edge);
+    outline::number_of(why)
+}
+
+// The answer to a move handed in as numbers in the edition of the house rule that is named, as 11 numbers: the case (0 clear by one, 1 clear by two,
+// 2 contact in edition 1, 3 contact in edition 2), the two sides named, n and d of first, n and d of last, the bearing (255 for none), the showing's kind
+// and its two numbers; 0 where there is nothing to say, all zeros where the move is refused.
+#[no_mangle]
+pub extern "C" fn stonefruitle_answer_edition(
+    edition: u64,
+    a: &[i64],
+    b: &[i64],
+    vax: i64,
+    vay: i64,
+    vbx: i64,
+    vby: i64,
+    limit: i64,
+    into: &mut [u64; 11],
+    edge: &mut u8,
+) -> u8
+    ensures { λ r. ⌜ Hands (refusalIn (answerIn edition (now (a .entry)) (now (b .entry)) (point vax vay) (point vbx vby) limit)) r (now (edge .entry)) (now (edge .exit)) × (now (into .exit) ≡ editionNumbers (answerIn edition (now (a .entry)) (now (b .entry)) (point vax vay) (point vbx vby) limit)) ⌝ }
+{
+    let va = Corner { x: vax, y: vay };
+    let vb = Corner { x: vbx, y: vby };
+    let x = checker::answer_edition(edition, a, b, va, vb, limit);
+    let why = editions::refusal_in(x);
+    *into = editions::edition_numbers(x);
     *edge = handed::edge_or(why, *edge);
     outline::number_of(why)
 }

@@ -5,6 +5,7 @@ use Rattle.whole.proofs.Determination.{determined}
 use Rattle.verdict.proofs.verdict.Reads as verdict
 use Rattle.verdict.proofs.answer_of.Reads as answer-of
 use Rattle.verdict.proofs.answer_of_lists.Reads as answer-of-lists
+use Rattle.verdict.proofs.editions.answer_of_lists.Reads as editions-answer-of-lists
 
 pub verdict-determined : (κs : Lfts 0) → Determined (verdict.Learnt κs) (λ r e. r)
 verdict-determined κs = determined (λ a r e p. p)
@@ -14,3 +15,6 @@ answer-of-determined κs = determined (λ a r e p. p)
 
 pub answer-of-lists-determined : (κs : Lfts 2) → Determined (answer-of-lists.Learnt κs) (λ r e. r)
 answer-of-lists-determined κs = determined (λ a r e p. p)
+
+pub editions-answer-of-lists-determined : (κs : Lfts 2) → Determined (editions-answer-of-lists.Learnt κs) (λ r e. r)
+editions-answer-of-lists-determined κs = determined (λ a r e p. p)

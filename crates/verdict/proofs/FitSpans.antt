@@ -9,7 +9,7 @@ use lib.ListN.{length}
 use borrow.Author.Tests.{ltb-true, ltb-false}
 use Rattle.whole.specs.Within.{Within}
 use Rattle.whole.proofs.Bound.{bounds, within}
-use Rattle.span.specs.declared.Edition.the-variants.{First}
+use Rattle.span.specs.declared.Edition.{Edition}
 use Rattle.span.proofs.Windows.{ShortSpan, window-short}
 use Rattle.span.proofs.Casts.{limit-short}
 use Rattle.span.proofs.Outcomes.{Made}
@@ -25,7 +25,7 @@ use Rattle.outline.proofs.HeldSizes.{held-near, held-side}
 use Rattle.moves.specs.HeldMove.{Fit, moveHeld}
 use Rattle.verdict.specs.Sides.{sideCount, sideOf}
 use Rattle.verdict.specs.Projections.{projections, Small}
-use Rattle.verdict.specs.Span.{span, spans}
+use Rattle.verdict.specs.Span.{spanIn, spansIn}
 use Rattle.moves.specs.declared.HeldMove.{HeldMove}
 use Rattle.verdict.proofs.SideSpans.{spans-length, spans-at, spans-good}
 
@@ -43,8 +43,8 @@ module _ (m : HeldMove) (f : Fit m) where
   some-corners-b : 1 ≤ length (cornersHeld (m .b))
   some-corners-b = let s = f .some-b in omega (arith, held-length (m .b) (f .held-b .kept))
 
-  pub spans-some : 1 ≤ length (spans (moveHeld m))
-  spans-some = let s = some-corners-a in omega (arith, spans-length (moveHeld m))
+  pub spans-some : (v : Edition) → 1 ≤ length (spansIn v (moveHeld m))
+  spans-some v = let s = some-corners-a in omega (arith, spans-length v (moveHeld m))
 
   module _ (k : ℕ) (h : k < sideCount (moveHeld m)) where
     abbrev D : Corner
@@ -79,15 +79,15 @@ module _ (m : HeldMove) (f : Fit m) where
     pub side-small : Small (projections (moveHeld m) k)
     side-small = record { near = side-near; low-a = low-a-within; high-a = high-a-within; low-b = low-b-within; high-b = high-b-within }
 
-    span-short : ShortSpan (span (moveHeld m) k)
-    unfolding span
-    span-short = window-short First _ _ _ (natAbs (m .limit)) (difference-short _ _ low-a-within high-b-within) (difference-short _ _ high-a-within low-b-within) (difference-short _ _ speed-b-within speed-a-within) (limit-short (m .limit) (f .from-zero, f .to-limit))
+    span-short : (v : Edition) → ShortSpan (spanIn v (moveHeld m) k)
+    unfolding spanIn
+    span-short v = window-short v _ _ _ (natAbs (m .limit)) (difference-short _ _ low-a-within high-b-within) (difference-short _ _ high-a-within low-b-within) (difference-short _ _ speed-b-within speed-a-within) (limit-short (m .limit) (f .from-zero, f .to-limit))
 
-  pub spans-made : Made (natAbs (m .limit)) (spans (moveHeld m))
-  spans-made =
+  pub spans-made : (v : Edition) → Made (natAbs (m .limit)) (spansIn v (moveHeld m))
+  spans-made v =
       record {
-        good = spans-good (moveHeld m) some-corners-a some-corners-b;
+        good = spans-good v (moveHeld m) some-corners-a some-corners-b;
         short = λ k h.
-            let i : k < sideCount (moveHeld m) = omega (arith, spans-length (moveHeld m)) in
-            rw (spans-at (moveHeld m) k i) (span-short k i);
+            let i : k < sideCount (moveHeld m) = omega (arith, spans-length v (moveHeld m)) in
+            rw (spans-at v (moveHeld m) k i) (span-short k i v);
       }

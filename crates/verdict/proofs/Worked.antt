@@ -1,4 +1,4 @@
--- The twelve cases hold by computation: each move of the table has the answer beside it.
+-- The twelve cases hold by computation: each move of the table has the answers beside it, in edition 1 and in edition 2.
 use mathlib.Core.Path.{_≡_, refl}
 use mathlib.Core.List.{map}
 use Rattle.whole.specs.Lowest.{lowest, every}
@@ -13,13 +13,16 @@ use Rattle.plane.specs.Inside.{inside, meet}
 use Rattle.outline.specs.Sound.{left, badEdge, isSound}
 use Rattle.outline.specs.Refusal.{firstThatApplies, counted, placed, carriedBy}
 use Rattle.verdict.specs.Sides.{sideOf}
-use Rattle.verdict.specs.Span.{span, spans}
+use Rattle.verdict.specs.Span.{spanIn, spansIn}
 use Rattle.showing.specs.Showing.{cornerInside, edgesMeet, meetingPair, showingOf, showing}
 use Rattle.verdict.specs.Verdict.{verdict}
 use Rattle.moves.specs.Refusal.{refusal, carried}
 use Rattle.verdict.specs.Answer.{answerUnless, answer}
+use Rattle.verdict.specs.Editions.{verdictInside, insideUnless, answerInside}
 use Rattle.verdict.specs.Cases.{Case, cases}
+use Rattle.verdict.specs.declared.Answer.{Answer}
+use Rattle.verdict.specs.declared.editions.EditionAnswer.{EditionAnswer}
 
-pub worked : map (λ (c : Case). answer (c .asked)) cases ≡ map (λ (c : Case). c .answered) cases
-unfolding lowest every best before same reduced cross dot low high shares touches inside meet left badEdge isSound firstThatApplies counted placed sideOf windowAheadIn windowStillIn windowIn span table spans cornerInside edgesMeet meetingPair showingOf showing outcomeIn verdict refusal carriedBy carried answerUnless answer
+pub worked : map {B = Answer × EditionAnswer} (λ (c : Case). (answer (c .asked), answerInside (c .asked))) cases ≡ map (λ (c : Case). (c .answered, c .second)) cases
+unfolding lowest every best before same reduced cross dot low high shares touches inside meet left badEdge isSound firstThatApplies counted placed sideOf windowAheadIn windowStillIn windowIn spanIn table spansIn cornerInside edgesMeet meetingPair showingOf showing outcomeIn verdict refusal carriedBy carried answerUnless answer verdictInside insideUnless
 worked = refl

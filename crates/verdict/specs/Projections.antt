@@ -1,15 +1,16 @@
 -- A side as the code holds it: its direction, and the intervals of both outlines on it.
---   projections m k          side k of the move m
---   Small p                  how far the numbers of a side reach where corners are in range
---   windowOf p va vb limit   the times from 0 to the limit at which the intervals of p share a value, A moving with va and B with vb
---   touch p                  the intervals of p share exactly one value
+--   projections m k            side k of the move m
+--   Small p                    how far the numbers of a side reach where corners are in range
+--   windowOf e p va vb limit   the times from 0 to the limit at which the intervals of p share a value, in edition 2 more than one, A moving with va and B with vb
+--   touch p                    the intervals of p share exactly one value
 use mathlib.Core.Bool.{Bool, not, _&&_}
 use Prim.Native.Nat.{ℕ}
 use lib.IntN.{ℤ, natAbs, _-ℤ_}
 use lib.Signed.{ltZ}
 use Rattle.whole.specs.Best.{betterOf}
 use Rattle.whole.specs.Within.{Within}
-use Rattle.span.specs.Window.{window}
+use Rattle.span.specs.Window.{windowIn}
+use Rattle.span.specs.declared.Edition.{Edition}
 use Rattle.span.specs.declared.Span.{Span}
 use Rattle.plane.specs.Point.{dot}
 use Rattle.plane.specs.Near.{Near}
@@ -29,8 +30,8 @@ pub record Small (p : Projections) : Type 0 where
   pub low-b : Within 400000000 (p .b .low)
   pub high-b : Within 400000000 (p .b .high)
 
-abbrev pub windowOf : Projections → Corner → Corner → ℤ → Span
-windowOf p va vb limit = window (p .a .low -ℤ p .b .high) (p .a .high -ℤ p .b .low) (dot (p .d) vb -ℤ dot (p .d) va) (natAbs limit)
+abbrev pub windowOf : Edition → Projections → Corner → Corner → ℤ → Span
+windowOf e p va vb limit = windowIn e (p .a .low -ℤ p .b .high) (p .a .high -ℤ p .b .low) (dot (p .d) vb -ℤ dot (p .d) va) (natAbs limit)
 
 abbrev pub touch : Projections → Bool
 touch p =

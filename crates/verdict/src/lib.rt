@@ -7,6 +7,7 @@ ghost use Rattle.verdict.specs.Verdict.{bearingAtZero, bearing, verdictF
 ghost use Rattle.verdict.specs.Answer.{answerBy, answerOfLists};
 ghost use Rattle.moves.specs.Reading.{Readable};
 
+pub mod editions; // the answer in a named edition of the house rule
 mod spans; // the span of each side, and what all have in common
 
 use moves::HeldMove;
@@ -14,6 +15,7 @@ use moves::Reading;
 use outline::Refusal;
 use plane::Corner;
 use showing::Showing;
+use span::Edition;
 use span::Lead;
 use span::Outcome;
 use whole::Time;
@@ -87,7 +89,7 @@ pub fn verdict(m: HeldMove) -> Answer
     requires { ⌜ Fit m ⌝ }
     ensures { λ r. ⌜ r ≡ verdict (moveHeld m) ⌝ }
 {
-    let o = spans::outcome(m);
+    let o = spans::outcome(Edition::First, m);
     match o {
         Outcome::ByOne(k) => Answer::ClearByOne(k),
         Outcome::ByTwo(i, j) => Answer::ClearByTwo(i, j),

@@ -1,15 +1,15 @@
 // The spans of a move's sides.
 ghost use mathlib.Core.Path.{_≡_};
 ghost use Prim.Native.Nat.{_≤_, _<_};
-ghost use lib.IntN.{pos};
+ghost use lib.IntN.{pos, natAbs};
 ghost use lib.Signed.{_≤ℤ_};
-ghost use Rattle.span.specs.Outcome.{outcome};
+ghost use Rattle.span.specs.Outcome.{outcomeIn};
 ghost use Rattle.moves.specs.HeldMove.{Fit, moveHeld};
 ghost use Rattle.verdict.specs.Sides.{sideCount, sideOf};
 ghost use Rattle.verdict.specs.Projections.{projections, Small, windowOf, touch};
 ghost use Rattle.plane.specs.Interval.{touches};
 ghost use Rattle.plane.specs.Near.{Near};
-ghost use Rattle.verdict.specs.Span.{span, spans};
+ghost use Rattle.verdict.specs.Span.{spanIn, spansIn};
 ghost use Rattle.verdict.specs.Verdict.{touchingSide};
 use moves::HeldMove;
 use outline::Interval;
@@ -63,10 +63,10 @@ fn side_of_b(m: HeldMove, k: usize) -> Projections
     }
 }
 
-// The times from 0 to the limit at which the intervals of a side share a value, from the velocities of both outlines.
-fn window_of(p: Projections, va: Corner, vb: Corner, limit: i64) -> Span
+// The times from 0 to the limit at which the intervals of a side share what the edition asks for, from the velocities of both outlines.
+fn window_of(edition: Edition, p: Projections, va: Corner, vb: Corner, limit: i64) -> Span
     requires { ⌜ Small p × Near 10000 va × Near 10000 vb × (pos 0 ≤ℤ limit) × (limit ≤ℤ pos 10000) ⌝ }
-    ensures { λ r. ⌜ r ≡ windowOf p va vb limit ⌝ }
+    ensures { λ r. ⌜ r ≡ windowOf edition p va vb limit ⌝ }
 {
     let d = p.d;
     let on_a = p.a;
@@ -74,7 +74,7 @@ fn window_of(p: Projections, va: Corner, vb: Corner, limit: i64) -> Span
     let speed_a = plane::dot(d, va);
     let speed_b = plane::dot(d, vb);
     span::window(
-        Edition::First,
+        edition,
         on_a.low - on_b.high,
         on_a.high - on_b.low,
         speed_b - speed_a,
@@ -83,21 +83,21 @@ fn window_of(p: Projections, va: Corner, vb: Corner, limit: i64) -> Span
 }
 
 // The span of side k.
-fn span(m: HeldMove, k: usize) -> Span
+fn span(edition: Edition, m: HeldMove, k: usize) -> Span
     requires { ⌜ Fit m × (k < sideCount (moveHeld m)) ⌝ }
-    ensures { λ r. ⌜ r ≡ span (moveHeld m) k ⌝ }
+    ensures { λ r. ⌜ r ≡ spanIn edition (moveHeld m) k ⌝ }
 {
     let a = m.a;
     if k < a.count {
-        return window_of(side_of_a(m, k), m.va, m.vb, m.limit);
+        return window_of(edition, side_of_a(m, k), m.va, m.vb, m.limit);
     }
-    window_of(side_of_b(m, k), m.va, m.vb, m.limit)
+    window_of(edition, side_of_b(m, k), m.va, m.vb, m.limit)
 }
 
 // What the spans of all sides have in common, side by side from 0; it is known at the first empty span.
-pub fn outcome(m: HeldMove) -> Outcome
+pub fn outcome(edition: Edition, m: HeldMove) -> Outcome
     requires { ⌜ Fit m ⌝ }
-    ensures { λ r. ⌜ r ≡ outcome (spans (moveHeld m)) ⌝ }
+    ensures { λ r. ⌜ r ≡ outcomeIn edition (natAbs (m .limit)) (spansIn edition (moveHeld m)) ⌝ }
 {
     let a = m.a;
     let b = m.b;
@@ -115,7 +115,7 @@ pub fn outcome(m: HeldMove) -> Outcome
     };
     let mut k: usize = 0;
     while k < n {
-        let s = span(m, k);
+        let s = span(edition, m, k);
         let Span::Between(begin, end) = s else {
             return Outcome::ByOne(k);
         };
@@ -123,7 +123,7 @@ pub fn outcome(m: HeldMove) -> Outcome
         last = span::sooner(last, end, k);
         k += 1;
     }
-    span::concluded(Edition::First, first, last, m.limit)
+    span::concluded(edition, first, last, m.limit)
 }
 
 // Whether the two intervals of a side share exactly one value.

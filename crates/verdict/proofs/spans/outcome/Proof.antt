@@ -1,5 +1,5 @@
 -- The loop keeps the leads of the sides passed; at the first empty span the outcome is known, and at the end it follows from the leads.
-use mathlib.Core.Path.{_≡_, sym, _∙_, subst}
+use mathlib.Core.Path.{_≡_, sym, _∙_, ap, subst}
 use Prim.Native.Nat.{ℕ, _≤_, _<_, _-_}
 use native.Mathlib.Omega.{arith}
 use lib.IntN.{natAbs}
@@ -9,15 +9,14 @@ use mir.Syntax.{w64}
 use mir.Val.{SFits}
 use mir.Facts.{toZ-ofZ}
 use Rattle.whole.proofs.Bound.{bounds, fits}
-use Rattle.span.specs.Outcome.{spanAt}
-use Rattle.span.specs.declared.Edition.the-variants.{First}
+use Rattle.span.specs.Outcome.{spanAt, outcomeIn}
+use Rattle.span.specs.declared.Edition.{Edition}
 use Rattle.span.specs.declared.Span.the-variants.{Between}
 use Rattle.span.proofs.Windows.{ShortSpan}
 use Rattle.span.proofs.Casts.{limit-within, limit-cast, limit-short}
-use Rattle.span.proofs.Outcomes.{first-untimed}
 use Rattle.span.proofs.Leading.{Leading, leading-start, leading-step, leading-empty, leading-end}
 use Rattle.moves.specs.HeldMove.{Fit, moveHeld}
-use Rattle.verdict.specs.Span.{spans}
+use Rattle.verdict.specs.Span.{spansIn}
 use Rattle.moves.specs.declared.HeldMove.{HeldMove}
 use Rattle.verdict.proofs.SideSpans.{spans-length, spans-at}
 use Rattle.verdict.proofs.FitSpans.{sideCount-is, spans-some, spans-made}
@@ -31,10 +30,10 @@ use Rattle.span.proofs.sooner.Reads as sooner-reads
 use Rattle.verdict.proofs.spans.span.Reads as span-reads
 
 abbrev Inv-loop : tie.InvT-loop
-Inv-loop m n first₀ last₀ k₀ first last k = (k ≤ n) × Leading (natAbs (m .limit)) (spans (moveHeld m)) k first last
+Inv-loop edition m n first₀ last₀ k₀ first last k = (k ≤ n) × Leading (natAbs (m .limit)) (spansIn edition (moveHeld m)) k first last
 
 abbrev μ-loop : tie.MeasureT-loop
-μ-loop m n first₀ last₀ k₀ first last k = n - k
+μ-loop edition m n first₀ last₀ k₀ first last k = n - k
 
 add-n : tie.Need-add-n Inv-loop μ-loop
 add-n c = search needs
@@ -42,8 +41,8 @@ add-n c = search needs
 limit-fits : (m : HeldMove) → Fit m → SFits w64 (m .limit)
 limit-fits m f = let t = limit-within (m .limit) (f .from-zero, f .to-limit) in fits (search bounds depth 4) tt
 
-cast-t12 : tie.Need-cast-t12 Inv-loop μ-loop
-cast-t12 c =
+cast-t13 : tie.Need-cast-t13 Inv-loop μ-loop
+cast-t13 c =
     let s = c .before .before .before .before .before .before in
     limit-cast (s .args .m .limit) (limit-fits (s .args .m) (s .pre)) (s .pre .from-zero, s .pre .to-limit)
 
@@ -51,7 +50,7 @@ loop-holds : tie.Need-loop-holds Inv-loop μ-loop
 loop-holds c =
     let s = c .before .before .before .before .before .before in
     let m = s .args .m in
-    (omega arith, rw (toZ-ofZ (limit-fits m (s .pre))) (leading-start (natAbs (m .limit)) (spans (moveHeld m)) (limit-short (m .limit) (s .pre .from-zero, s .pre .to-limit))))
+    (omega arith, rw (toZ-ofZ (limit-fits m (s .pre))) (leading-start (natAbs (m .limit)) (spansIn (s .args .edition) (moveHeld m)) (limit-short (m .limit) (s .pre .from-zero, s .pre .to-limit))))
 
 span-requires : tie.Need-span-requires Inv-loop μ-loop
 span-requires c κs =
@@ -66,6 +65,9 @@ enum-told c = search needs
 
 -- in the loop: the move, its list of spans, and that side k has a place in it
 module _ (c : lts.After-span (span-reads.Asked, span-reads.Learnt, later-reads.Asked, later-reads.Learnt, sooner-reads.Asked, sooner-reads.Learnt, concluded-reads.Asked, concluded-reads.Learnt) reads.Pre reads.Post Inv-loop μ-loop) where
+  abbrev v : Edition
+  v = c .before .before .before .before .before .before .before .before .before .args .edition
+
   abbrev m : HeldMove
   m = c .before .before .before .before .before .before .before .before .before .args .m
 
@@ -75,25 +77,25 @@ module _ (c : lts.After-span (span-reads.Asked, span-reads.Learnt, later-reads.A
   abbrev k : ℕ
   k = c .before .before .loop .k
 
-  below : k < length (spans (moveHeld m))
-  below = omega (arith, sideCount-is m fit, spans-length (moveHeld m), c .before .loop-test .taken)
+  below : k < length (spansIn v (moveHeld m))
+  below = omega (arith, sideCount-is m fit, spans-length v (moveHeld m), c .before .loop-test .taken)
 
-  found : c .span .result ≡ spanAt (spans (moveHeld m)) k
-  found = c .span .ensures ∙ sym (spans-at (moveHeld m) k (omega (arith, below, spans-length (moveHeld m))))
+  found : c .span .result ≡ spanAt (spansIn v (moveHeld m)) k
+  found = c .span .ensures ∙ sym (spans-at v (moveHeld m) k (omega (arith, below, spans-length v (moveHeld m))))
 
 returns : tie.Need-returns Inv-loop μ-loop
 returns c =
     let at = c .before .before in
     let loop = at .before .before .loop in
-    leading-empty (natAbs (m at .limit)) (spans (moveHeld (m at))) (spans-made (m at) (fit at)) (loop .k) (loop .first) (loop .last) (loop .inv .1) First 0 (below at) (sym (c .enum-told .given .1) ∙ found at)
+    leading-empty (natAbs (m at .limit)) (spansIn (v at) (moveHeld (m at))) (spans-made (m at) (fit at) (v at)) (loop .k) (loop .first) (loop .last) (loop .inv .1) (v at) (natAbs (m at .limit)) (below at) (sym (c .enum-told .given .1) ∙ found at)
 
 -- the begin and the end that were found
 module _ (c : lts.After-s (span-reads.Asked, span-reads.Learnt, later-reads.Asked, later-reads.Learnt, sooner-reads.Asked, sooner-reads.Learnt, concluded-reads.Asked, concluded-reads.Learnt) reads.Pre reads.Post Inv-loop μ-loop) where
-  both : Between (c .s .given .0 .0) (c .s .given .0 .1 .0) ≡ spanAt (spans (moveHeld (m (c .before .before)))) (k (c .before .before))
+  both : Between (c .s .given .0 .0) (c .s .given .0 .1 .0) ≡ spanAt (spansIn (v (c .before .before)) (moveHeld (m (c .before .before)))) (k (c .before .before))
   both = sym (c .s .given .1) ∙ found (c .before .before)
 
   both-short : ShortSpan (Between (c .s .given .0 .0) (c .s .given .0 .1 .0))
-  both-short = let at = c .before .before in subst ShortSpan (sym both) (spans-made (m at) (fit at) .short (k at) (below at))
+  both-short = let at = c .before .before in subst ShortSpan (sym both) (spans-made (m at) (fit at) (v at) .short (k at) (below at))
 
 later-requires : tie.Need-later-requires Inv-loop μ-loop
 later-requires c κs = (c .before .before .before .before .before .loop .inv .1 .begins .comparable .1, both-short (c .before) .0)
@@ -118,7 +120,7 @@ loop-again c =
     let loop = at .before .before .loop in (
       omega (arith, at .before .loop-test .taken),
       rw (c .before .later .ensures, c .sooner .ensures)
-          (leading-step (natAbs (m at .limit)) (spans (moveHeld (m at))) (spans-made (m at) (fit at)) (loop .k) (loop .first) (loop .last) (loop .inv .1) _ _ (below at) (both (c .before .before .before))),
+          (leading-step (natAbs (m at .limit)) (spansIn (v at) (moveHeld (m at))) (spans-made (m at) (fit at) (v at)) (loop .k) (loop .first) (loop .last) (loop .inv .1) _ _ (below at) (both (c .before .before .before))),
     )
 
 concluded-requires : tie.Need-concluded-requires Inv-loop μ-loop
@@ -130,8 +132,10 @@ returns-2 : tie.Need-returns-2 Inv-loop μ-loop
 returns-2 c =
     let at = c .before .before .before in
     let s = at .before .before .before .before .before .before .before in
+    let v = s .args .edition in
     let m = s .args .m in
-    c .concluded .ensures ∙ leading-end (natAbs (m .limit)) (spans (moveHeld m)) (spans-made m (s .pre)) (at .loop .k) (at .loop .first) (at .loop .last) (at .loop .inv .1) (spans-some m (s .pre)) (omega (arith, sideCount-is m (s .pre), spans-length (moveHeld m))) First _ ∙ first-untimed _ (spans (moveHeld m))
+    c .concluded .ensures ∙ leading-end (natAbs (m .limit)) (spansIn v (moveHeld m)) (spans-made m (s .pre) v) (at .loop .k) (at .loop .first) (at .loop .last) (at .loop .inv .1) (spans-some m (s .pre) v) (omega (arith, sideCount-is m (s .pre), spans-length v (moveHeld m))) v _
+    ∙ ap (λ z. outcomeIn v (natAbs z) (spansIn v (moveHeld m))) (toZ-ofZ (limit-fits m (s .pre)))
 
 pub outcome-spec : {M : Type 1} → statement M
 outcome-spec =
@@ -140,7 +144,7 @@ outcome-spec =
     Inv-loop
     μ-loop
     add-n
-    cast-t12
+    cast-t13
     loop-holds
     span-requires
     enum-known-s

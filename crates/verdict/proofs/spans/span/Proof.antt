@@ -6,7 +6,7 @@ use borrow.Author.Needs.{needs}
 use Rattle.span.proofs.Casts.{limit-read}
 use Rattle.moves.specs.HeldMove.{Fit}
 use Rattle.moves.specs.declared.HeldMove.{HeldMove}
-use Rattle.verdict.specs.Span.{span}
+use Rattle.verdict.specs.Span.{spanIn}
 use Rattle.verdict.specs.Projections.{Small, windowOf}
 use Rattle.verdict.proofs.FitSpans.{side-small}
 use Rattle.verdict.proofs.spans.span.Statement.{statement}
@@ -26,11 +26,11 @@ window-of-requires c κs =
     (subst Small (sym (c .before .side-of-a .ensures)) (side-small m fit (s .args .k) (s .pre .1)), fit .near-va, fit .near-vb, rw (limit-is m fit) (fit .from-zero), rw (limit-is m fit) (fit .to-limit))
 
 returns : tie.Need-returns
-unfolding span
+unfolding spanIn
 returns c =
     let s = c .before .before .before .before .before .before in
     let m = s .args .m in
-    c .window-of .ensures ∙ ap₂ (λ p t. windowOf p (m .va) (m .vb) t) (c .before .before .side-of-a .ensures) (limit-is m (s .pre .0))
+    c .window-of .ensures ∙ ap₂ (λ p t. windowOf (s .args .edition) p (m .va) (m .vb) t) (c .before .before .side-of-a .ensures) (limit-is m (s .pre .0))
 
 side-of-b-requires : tie.Need-side-of-b-requires
 side-of-b-requires c κs = search needs
@@ -43,11 +43,11 @@ window-of-requires-2 c κs =
     (subst Small (sym (c .before .side-of-b .ensures)) (side-small m fit (s .args .k) (s .pre .1)), fit .near-va, fit .near-vb, rw (limit-is m fit) (fit .from-zero), rw (limit-is m fit) (fit .to-limit))
 
 returns-2 : tie.Need-returns-2
-unfolding span
+unfolding spanIn
 returns-2 c =
     let s = c .before .before .before .before .before .before in
     let m = s .args .m in
-    c .window-of2 .ensures ∙ ap₂ (λ p t. windowOf p (m .va) (m .vb) t) (c .before .before .side-of-b .ensures) (limit-is m (s .pre .0))
+    c .window-of2 .ensures ∙ ap₂ (λ p t. windowOf (s .args .edition) p (m .va) (m .vb) t) (c .before .before .side-of-b .ensures) (limit-is m (s .pre .0))
 
 pub span-spec : {M : Type 1} → statement M
 span-spec =
