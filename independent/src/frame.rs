@@ -19,6 +19,8 @@ pub enum Refusal {
     Second(usize),
     /// In a log (request Q-2).
     Order,
+    /// An edition that there is none of (request Q-6). No line names one.
+    Edition,
 }
 
 impl Refusal {
@@ -33,6 +35,7 @@ impl Refusal {
             Refusal::First(_) => 8,
             Refusal::Second(_) => 9,
             Refusal::Order => 10,
+            Refusal::Edition => 11,
         }
     }
 
@@ -90,8 +93,7 @@ pub fn read_line(line: &[u8]) -> Result<Asked, Refusal> {
     }
 }
 
-/// The same where only a move of kind 01 will do, as tests ask.
-#[allow(dead_code)]
+/// The same where only a move of kind 01 will do.
 pub fn read_move(line: &[u8]) -> Result<Move, Refusal> {
     let frame = bytes_of(line, MOST_DIGITS).ok_or(Refusal::Digits)?;
     if frame[0] != 0x01 {

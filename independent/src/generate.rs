@@ -9,6 +9,7 @@ use super::checker::{
     edge, inside_or_on, interval, is_bad_edge, is_sound, lowest_bad_edge, point, Move, Point,
 };
 use super::frame::{write_move, MOST_DIGITS, REACH};
+use super::rails;
 
 #[derive(Clone, Copy, Debug, PartialEq, Eq)]
 pub enum Class {
@@ -68,6 +69,8 @@ pub enum Class {
     Repeated,
     /// Three corners in line, or all.
     Straight,
+    /// One of the classes of rails.rs.
+    Rail(rails::Class),
 }
 
 /// Classes that take turns, with their names.
@@ -111,7 +114,34 @@ pub const BAD_EDGES: Set = &[
     (Class::Straight, "straight"),
 ];
 
-pub const SETS: [(&str, Set); 3] = [("base", BASE), ("Q-1", AT_ZERO), ("Q-3", BAD_EDGES)];
+/// Of request Q-6: where the editions of the touch rule part.
+pub const RAILS: Set = &[
+    (Class::Rail(rails::Class::Rails), "rails"),
+    (Class::Rail(rails::Class::InnerRail), "inner-rail"),
+    (Class::Rail(rails::Class::Resting), "resting"),
+    (Class::Rail(rails::Class::Leaving), "leaving"),
+    (Class::Rail(rails::Class::AtLast), "at-last"),
+    (
+        Class::Rail(rails::Class::CornerOnCorner),
+        "corner-on-corner",
+    ),
+    (Class::Rail(rails::Class::Past), "past"),
+    (Class::Rail(rails::Class::NearPast), "near-past"),
+    (Class::Rail(rails::Class::ZeroTouching), "zero-touching"),
+    (
+        Class::Rail(rails::Class::ZeroOverlapping),
+        "zero-overlapping",
+    ),
+    (Class::Rail(rails::Class::ZeroApart), "zero-apart"),
+    (Class::Rail(rails::Class::Apart), "apart"),
+];
+
+pub const SETS: [(&str, Set); 4] = [
+    ("base", BASE),
+    ("Q-1", AT_ZERO),
+    ("Q-3", BAD_EDGES),
+    ("Q-6", RAILS),
+];
 
 pub fn set_named(name: &str) -> Option<Set> {
     SETS.iter().find(|(n, _)| *n == name).map(|(_, set)| *set)
@@ -166,6 +196,7 @@ pub fn sound_move(rng: &mut Rng, class: Class) -> Move {
             Class::Across => across(rng),
             Class::Parting => parting(rng),
             Class::Closing => closing(rng),
+            Class::Rail(class) => rails::attempt(rng, class),
             _ => panic!("{class:?} is not a class of sound moves"),
         };
         if let Some(m) = attempt {
@@ -243,7 +274,7 @@ impl Rng {
 // ---------------------------------------------------------------------------
 // Outlines
 
-fn shifted(outline: &[Point], by: Point) -> Vec<Point> {
+pub fn shifted(outline: &[Point], by: Point) -> Vec<Point> {
     outline.iter().map(|corner| corner.plus(by)).collect()
 }
 
@@ -339,7 +370,7 @@ pub fn outline(rng: &mut Rng, count: usize, size: i128) -> Vec<Point> {
     unreachable!()
 }
 
-fn any_outline(rng: &mut Rng, size: i128) -> Vec<Point> {
+pub fn any_outline(rng: &mut Rng, size: i128) -> Vec<Point> {
     let count = rng.range(3, 16) as usize;
     outline(rng, count, size)
 }
@@ -373,7 +404,7 @@ fn gcd(a: i128, b: i128) -> i128 {
 }
 
 /// The shortest whole step along a direction.
-fn shortest(step: Point) -> Point {
+pub fn shortest(step: Point) -> Point {
     let g = gcd(step.x, step.y);
     point(step.x / g, step.y / g)
 }
@@ -452,13 +483,13 @@ pub fn put_together(
 
 /// How the outlines lie when they touch: B where it touches A from outside,
 /// and a direction that points from A to B across a line between them.
-struct Touch {
-    a: Vec<Point>,
-    b: Vec<Point>,
-    across: Point,
+pub struct Touch {
+    pub a: Vec<Point>,
+    pub b: Vec<Point>,
+    pub across: Point,
 }
 
-fn touch(rng: &mut Rng, size: i128) -> Touch {
+pub fn touch(rng: &mut Rng, size: i128) -> Touch {
     // Enlarged, every edge has whole places between its ends, so that a
     // corner can rest in the middle of an edge.
     let times = rng.pick(&[1, 2, 3, 4, 6]);
@@ -544,7 +575,7 @@ fn contained(rng: &mut Rng) -> Option<Move> {
 }
 
 /// Two outlines across one another.
-fn crossed(rng: &mut Rng) -> (Vec<Point>, Vec<Point>) {
+pub fn crossed(rng: &mut Rng) -> (Vec<Point>, Vec<Point>) {
     let (a, b) = if rng.one_in(4) {
         // Two triangles as a star of six points, one perhaps off its place.
         let size = rng.size(2, 2000);
@@ -759,7 +790,7 @@ pub fn full_speed(rng: &mut Rng) -> i128 {
     }
 }
 
-fn full(rng: &mut Rng) -> Option<Move> {
+pub fn full(rng: &mut Rng) -> Option<Move> {
     let most_corners = rng.one_in(8);
     let mut one = || {
         let count = if most_corners {
@@ -868,7 +899,7 @@ fn part_of(rng: &mut Rng, outline: &[Point], kept: &[usize]) -> Vec<Point> {
 }
 
 /// How many corners are farthest in a direction.
-fn farthest_count(outline: &[Point], direction: Point) -> usize {
+pub fn farthest_count(outline: &[Point], direction: Point) -> usize {
     let (_, most) = interval(outline, direction);
     let is_farthest = |c: &&Point| direction.dot(**c) == most;
     outline.iter().filter(is_farthest).count()
@@ -918,7 +949,7 @@ fn resized(rng: &mut Rng, a: &[Point], b: &[Point]) -> (Vec<Point>, Vec<Point>) 
 }
 
 /// B is a part of A turned half, so that their edges run opposite ways.
-fn by_edge(rng: &mut Rng) -> Option<Touch> {
+pub fn by_edge(rng: &mut Rng) -> Option<Touch> {
     let size = rng.size(2, 3000);
     let a = any_outline(rng, size);
     let i = rng.index(a.len());
@@ -941,7 +972,7 @@ fn paired(steps: &[Point]) -> Vec<Point> {
 }
 
 /// Both have all edges in pairs, and one step, times something, in common.
-fn by_parallel_edges(rng: &mut Rng) -> Option<Touch> {
+pub fn by_parallel_edges(rng: &mut Rng) -> Option<Touch> {
     let size = rng.size(1, 800);
     let common = shortest(rng.nonzero_within(size));
     let mut one = || {
@@ -972,7 +1003,7 @@ fn by_parallel_edges(rng: &mut Rng) -> Option<Touch> {
 /// Corner to corner: B is a part of A turned half about the corner, so that
 /// the lines of both edges at A's corner are between them, and often those
 /// of the edges at B's.
-fn by_several(rng: &mut Rng) -> Option<Touch> {
+pub fn by_several(rng: &mut Rng) -> Option<Touch> {
     let size = rng.size(2, 3000);
     let a = any_outline(rng, size);
     let i = rng.index(a.len());
@@ -1001,7 +1032,7 @@ fn at_rest(rng: &mut Rng, touch: Touch) -> Option<Move> {
 }
 
 /// At rest, or moving any way.
-fn any_way(rng: &mut Rng) -> Point {
+pub fn any_way(rng: &mut Rng) -> Point {
     let speed = rng.size(1, 2 * REACH);
     if rng.one_in(2) {
         point(0, 0)
@@ -1010,7 +1041,7 @@ fn any_way(rng: &mut Rng) -> Point {
     }
 }
 
-fn within(rng: &mut Rng) -> Option<Move> {
+pub fn within(rng: &mut Rng) -> Option<Move> {
     let size = rng.size(3, 6000);
     let a = any_outline(rng, size);
     let (a, b) = match rng.index(4) {
@@ -1049,7 +1080,7 @@ fn across(rng: &mut Rng) -> Option<Move> {
     put_together(rng, &a, &b, w, limit)
 }
 
-fn any_touch(rng: &mut Rng) -> Option<Touch> {
+pub fn any_touch(rng: &mut Rng) -> Option<Touch> {
     match rng.index(4) {
         0 => by_corner(rng),
         1 => by_edge(rng),
@@ -1058,7 +1089,7 @@ fn any_touch(rng: &mut Rng) -> Option<Touch> {
     }
 }
 
-fn parting(rng: &mut Rng) -> Option<Move> {
+pub fn parting(rng: &mut Rng) -> Option<Move> {
     let Touch { a, b, across } = any_touch(rng)?;
     let speed = rng.size(1, 2 * REACH);
     let w = match rng.index(3) {

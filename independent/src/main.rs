@@ -1,16 +1,19 @@
 //! A reference program for comparison: see README.md beside this directory.
 
 mod checker;
+mod edition;
 mod frame;
 mod generate;
 mod log;
+mod rails;
 mod rectangle;
 mod runs;
 mod trays;
 
 use checker::{directions, edge, touched_at_zero, verdict, Move, Showing, Verdict};
+use edition::Second;
 use frame::{Asked, Refusal};
-use generate::{bad_edges, Set, BAD_EDGES};
+use generate::{bad_edges, Class, Set, BAD_EDGES};
 use log::{Kept, Step};
 use runs::Log;
 use std::io::{self, BufRead, BufReader, BufWriter, Write};
@@ -18,6 +21,7 @@ use std::process::ExitCode;
 
 const USAGE: &str = "usage: independent [answer]
        independent answer log
+       independent edition NUMBER
        independent four-corners
        independent moves SEED COUNT [SET | CLASS]
        independent count SEED COUNT [SET | CLASS]";
@@ -69,6 +73,22 @@ fn answer_log(input: impl BufRead, output: impl Write) -> io::Result<()> {
         let step = log::step(kept, line);
         kept = step.kept;
         step.answer
+    })
+}
+
+/// The eleven numbers of each move of kind 01 in an edition (request Q-6), or
+/// its refusal.
+fn of_edition(input: impl BufRead, output: impl Write, number: u64) -> io::Result<()> {
+    each_line(input, output, |line| {
+        let read = frame::read_move(line);
+        let answer = edition::answer(number, read.as_ref().map_err(|refusal| *refusal));
+        match answer {
+            Err(refusal) => format!("refused: {}", refusal.number()).into_bytes(),
+            Ok(_) => edition::numbers(&answer)
+                .map(|n| n.to_string())
+                .join(" ")
+                .into_bytes(),
+        }
     })
 }
 
@@ -170,6 +190,69 @@ fn cases(read: &Result<Move, Refusal>) -> Vec<&'static str> {
             all
         }
     }
+}
+
+/// The cases of request Q-6. In edition 2: by one; by two, the greatest begin
+/// `above` the least end or `equal` to it; contact, of which `at-0` from zero on
+/// and `no-time` with the limit zero. In edition 1: `one`, `two`, `contact`.
+/// Where the editions differ: in edition 1 contact and in edition 2 clear by
+/// one or by two, and else `otherwise`, clear by other sides in both, or contact
+/// with another first or last.
+const EDITION_CASES: [&str; 14] = [
+    "by-one",
+    "by-two-above",
+    "by-two-equal",
+    "contact",
+    "at-0",
+    "no-time",
+    "1-one",
+    "1-two",
+    "1-contact",
+    "differ",
+    "to-one",
+    "to-two",
+    "otherwise",
+    "same",
+];
+
+fn edition_cases(m: &Move) -> Vec<&'static str> {
+    let (first, second) = (verdict(m), edition::second(m));
+    let mut all = vec![match second {
+        Second::ClearByOne(_) => "by-one",
+        Second::ClearByTwo(i, j) => {
+            let spans = edition::spans(m);
+            match spans[i].map(|span| span.begin) == spans[j].map(|span| span.end) {
+                true => "by-two-equal",
+                false => "by-two-above",
+            }
+        }
+        Second::Contact { .. } => "contact",
+    }];
+    if let Second::Contact { first, .. } = second {
+        all.extend((first.n == 0).then_some("at-0"));
+        all.extend((m.limit == 0).then_some("no-time"));
+    }
+    all.push(match first {
+        Verdict::ClearByOne(_) => "1-one",
+        Verdict::ClearByTwo(_, _) => "1-two",
+        Verdict::Contact { .. } => "1-contact",
+    });
+    let without_evidence = match first {
+        Verdict::ClearByOne(k) => Second::ClearByOne(k),
+        Verdict::ClearByTwo(i, j) => Second::ClearByTwo(i, j),
+        Verdict::Contact { first, last, .. } => Second::Contact { first, last },
+    };
+    if second == without_evidence {
+        all.push("same");
+    } else {
+        all.push("differ");
+        all.push(match (first, second) {
+            (Verdict::Contact { .. }, Second::ClearByOne(_)) => "to-one",
+            (Verdict::Contact { .. }, Second::ClearByTwo(_, _)) => "to-two",
+            _ => "otherwise",
+        });
+    }
+    all
 }
 
 /// The cases of request Q-5: the sides named and what shows. A contact counts
@@ -410,9 +493,10 @@ fn count(mut output: impl Write, seed: u64, count: u64, made: Made) -> io::Resul
 }
 
 fn count_moves(seed: u64, count: u64, set: Set) -> Table {
-    let columns = match generate::is_of(BAD_EDGES, set[0].0) {
-        true => &EDGE_CASES[3..],
-        false => &CASES[..],
+    let columns = match set[0].0 {
+        Class::Rail(_) => &EDITION_CASES[..],
+        class if generate::is_of(BAD_EDGES, class) => &EDGE_CASES[3..],
+        _ => &CASES[..],
     };
     let mut table = Table::new(columns, set.iter().map(|(_, name)| *name));
     for place in 0..count {
@@ -423,7 +507,10 @@ fn count_moves(seed: u64, count: u64, set: Set) -> Table {
             Asked::Outlines(m) => m,
             Asked::Rectangles(m) => rectangle::four_corners(&m),
         });
-        let mut met = cases(&read);
+        let mut met = match (class, &read) {
+            (Class::Rail(_), Ok(m)) => edition_cases(m),
+            _ => cases(&read),
+        };
         let refusal = read.err();
         met.extend(refusal.map_or(Vec::new(), |r| edge_cases(&line, r)));
         table.add(row, &met, refusal);
@@ -477,6 +564,7 @@ fn main() -> ExitCode {
     let done = match words[..] {
         [] | ["answer"] => Some(answer(input(), output, frame::answer)),
         ["answer", "log"] => Some(answer_log(input(), output)),
+        ["edition", of] => number(of).map(|of| of_edition(input(), output, of)),
         ["four-corners"] => Some(four_corners(input(), output)),
         [task @ ("moves" | "count"), seed, lines, ref of @ ..] if of.len() <= 1 => {
             let of = of.first().copied().unwrap_or("base");
@@ -505,6 +593,8 @@ fn main() -> ExitCode {
 mod tests;
 #[cfg(test)]
 mod tests_edges;
+#[cfg(test)]
+mod tests_editions;
 #[cfg(test)]
 mod tests_log;
 #[cfg(test)]

@@ -259,7 +259,7 @@ fn classes() -> impl Iterator<Item = Class> {
 }
 
 /// Some of every class that is not refused.
-fn sample(each: u64) -> Vec<(Class, Move)> {
+pub fn sample(each: u64) -> Vec<(Class, Move)> {
     let mut all = Vec::new();
     for class in classes() {
         let refused = [Class::Unsound, Class::Damaged].contains(&class) || is_of(BAD_EDGES, class);
@@ -272,7 +272,7 @@ fn sample(each: u64) -> Vec<(Class, Move)> {
 
 /// A time a little before or after another. The times of a span and those of
 /// contact are one closed interval each, so any time outside it will do.
-fn beside(time: Fraction, by: i128) -> Fraction {
+pub fn beside(time: Fraction, by: i128) -> Fraction {
     Fraction {
         n: time.n * 1000 + by,
         d: time.d * 1000,
