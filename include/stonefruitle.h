@@ -11,7 +11,9 @@
  *
  * Go on clear and on nothing else: a return of 0, line[2] == '0', and line[3]
  * == '0' or '1'. examples/c/answer.c does so. docs/FORMAT.md has every byte of
- * the lines. stonefruitle_read_line, stonefruitle_read_move,
+ * the lines. stonefruitle_answer_edition writes numbers and no line: go on a
+ * return of 0 and a case of 0 or 1, both, since with a refusal the numbers are
+ * all zero. stonefruitle_read_line, stonefruitle_read_move,
  * stonefruitle_read_rectangles, stonefruitle_read_log and
  * stonefruitle_test_outline do not look whether outlines meet at all.
  *
@@ -25,8 +27,9 @@
  * Stack    under 6 KB. Measured by painting a stack before the call: 5.5 KB for
  *          stonefruitle_log_step, 5.3 for stonefruitle_read_log, 5.1 for
  *          stonefruitle_read_move, 4.1 for stonefruitle_read_line, 4.0 for
- *          stonefruitle_answer_line, 3.9 for stonefruitle_write_move, less for
- *          the others; 1.3 at most for rectangles, as lines or as numbers.
+ *          stonefruitle_answer_line, 3.9 for stonefruitle_write_move, 3.5 for
+ *          stonefruitle_answer_edition, less for the others; 1.3 at most for
+ *          rectangles, as lines or as numbers.
  * Time     bounded, whatever is handed in. A longer line or list is refused
  *          unread. Each outline's 16 corners at most are tried against its 16
  *          edges. At most 32 sides are worked, each with 32 products for the
@@ -61,6 +64,12 @@
  * answered as that of two outlines whose four corners run from low x, low y
  * counterclockwise, with its sides and corners.
  *
+ * Editions. In edition 1 of the house rule the outlines are in contact where
+ * they share a point, so that touching counts; in edition 2 only where they
+ * share an inner point, so that outlines may slide along one another.
+ * stonefruitle_answer_edition takes the edition; lines and all other functions
+ * mean edition 1.
+ *
  * Each function returns the number of its refusal, 0 for none. Of several that
  * apply the first in this list is returned.
  *
@@ -89,6 +98,7 @@
 #define STONEFRUITLE_FIRST 8  /* the first outline is not sound; *edge says which edge is wrong. The first rectangle's low is not below its high in x or in y; *edge is 0 */
 #define STONEFRUITLE_SECOND 9 /* the second outline or rectangle, likewise */
 #define STONEFRUITLE_ORDER 10 /* a line of a log whose number does not follow the kept one */
+#define STONEFRUITLE_EDITION 11 /* the edition named is neither 1 nor 2; comes before 4 */
 
 /* The kinds of a move line: two outlines, two rectangles. */
 #define STONEFRUITLE_OUTLINES 1
@@ -113,6 +123,22 @@
 #define STONEFRUITLE_RECTANGLES_NUMBERS 13
 #define STONEFRUITLE_AT_RECTANGLE_A 5
 #define STONEFRUITLE_AT_RECTANGLE_B 9
+
+/* How many numbers stonefruitle_answer_edition hands out, and where they stand. */
+#define STONEFRUITLE_ANSWER_NUMBERS 11
+#define STONEFRUITLE_AT_CASE 0
+#define STONEFRUITLE_AT_SIDES 1
+#define STONEFRUITLE_AT_FIRST 3
+#define STONEFRUITLE_AT_LAST 5
+#define STONEFRUITLE_AT_BEARING 7
+#define STONEFRUITLE_AT_SHOWING 8
+
+/* The cases, and the bearing that stands for none. */
+#define STONEFRUITLE_CLEAR_BY_ONE 0
+#define STONEFRUITLE_CLEAR_BY_TWO 1
+#define STONEFRUITLE_CONTACT 2       /* of edition 1 */
+#define STONEFRUITLE_INNER_CONTACT 3 /* of edition 2 */
+#define STONEFRUITLE_NO_BEARING 255
 
 #ifdef __cplusplus
 extern "C" {
@@ -157,6 +183,38 @@ uint8_t stonefruitle_answer_lists(const int64_t *a, size_t a_length,
                                   int64_t vbx, int64_t vby, int64_t limit,
                                   uint8_t *out, size_t out_length,
                                   size_t *written, uint8_t *edge);
+
+/*
+ * The answer, in the edition named, to a move handed in as numbers.
+ *
+ * Takes the edition, 1 or 2, the coordinates of both outlines, the velocity of
+ * each, the limit, a place for 11 numbers and one for an edge. Refusals: 11 for
+ * any other edition, then 4 to 9. With any refusal all 11 numbers are zero,
+ * which is no "clear by side 0"; with 8 and 9 *edge is written.
+ *
+ * All 11 numbers are written. Those that have nothing to say are 0:
+ *
+ *     0        the case: 0 clear by one, 1 clear by two, 2 contact in edition 1,
+ *              3 contact in edition 2
+ *     1, 2     the side, or the two sides, that keep the outlines apart
+ *     3, 4     n and d of the first time of contact, in lowest terms
+ *     5, 6     n and d of the last
+ *     7        the side that bears, 255 for none; edition 1 only
+ *     8 to 10  the kind of the showing and its two numbers; edition 1 only
+ *
+ * In edition 1 they are what stonefruitle_answer_lists writes as a line. In
+ * edition 2 contact means that at some time from 0 to the limit the outlines
+ * share an inner point. First and last are then the greatest lower and the least
+ * upper bound of those times, and need not be such times themselves. Clear means
+ * that there is no such time; the outlines may touch all the while.
+ */
+uint8_t stonefruitle_answer_edition(uint64_t edition,
+                                    const int64_t *a, size_t a_length,
+                                    const int64_t *b, size_t b_length,
+                                    int64_t vax, int64_t vay,
+                                    int64_t vbx, int64_t vby, int64_t limit,
+                                    uint64_t numbers[STONEFRUITLE_ANSWER_NUMBERS],
+                                    uint8_t *edge);
 
 /*
  * The line of a move handed in as numbers.

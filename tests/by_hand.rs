@@ -6,13 +6,16 @@
 //!     by_hand --answers        the answer lines
 //!     by_hand --log            the lines of the log
 //!     by_hand --log-answers    their answer lines
+//!     by_hand --second         the move lines worked in the second edition
+//!     by_hand --second-numbers the eleven numbers of their answers
 //!
 //! It shares no code with the program or with the independent one. What the
 //! document concludes from the numbers is checked here before it is printed:
 //! the weights against the definition of a common point, each statement about
 //! a side against the corners at many times, the edge that is wrong against
-//! what a sound outline is, and the two spans of rectangles against the sides of
-//! their four corners.
+//! what a sound outline is, the two spans of rectangles against the sides of
+//! their four corners, and the spans of the second edition against the intervals
+//! at many times.
 
 use std::fmt;
 
@@ -1435,6 +1438,244 @@ impl Trayed<'_> {
 }
 
 // ---------------------------------------------------------------------------
+// The second edition.
+
+/// The cases worked in it.
+const SECOND: [&str; 2] = ["P2", "P8"];
+
+struct Second {
+    m: Move,
+    sides: Vec<Side>,
+    /// Of each side the bounds of the times at which the intervals share more
+    /// than one value, if there are such times.
+    spans: Vec<Option<Span>>,
+}
+
+/// Both ends of what is not cut are left out; the intervals have some length.
+fn inner_span(s: &Side, limit: i128) -> Option<Span> {
+    let (zero, limit) = (Time { n: 0, d: 1 }, Time { n: limit, d: 1 });
+    check(zero.before(limit), "the limit is above zero");
+    let Some((from, to)) = s.uncut else {
+        return (s.lo < 0 && 0 < s.hi).then_some((zero, limit));
+    };
+    if !from.before(limit) || !zero.before(to) {
+        return None;
+    }
+    let begin = if zero.before(from) { from } else { zero };
+    let end = if to.before(limit) { to } else { limit };
+    Some((begin.reduced(), end.reduced()))
+}
+
+fn second(name: &str) -> Second {
+    let m = read(named(name));
+    let sides = sides_of(&m);
+    let spans: Vec<_> = sides.iter().map(|s| inner_span(s, m.limit)).collect();
+    for (s, span) in sides.iter().zip(&spans) {
+        // At every n/d of the move with d up to 12.
+        for t in (1..=12).flat_map(|d| (0..=m.limit * d).map(move |n| Time { n, d })) {
+            let said = span.is_some_and(|(begin, end)| {
+                let after = begin.before(t) || (t.n == 0 && begin.n == 0);
+                let to_limit = end.n == m.limit * end.d && t.n == m.limit * t.d;
+                after && (t.before(end) || to_limit)
+            });
+            check(
+                (shared_at(s, t) > 0) == said,
+                "more than one value is shared just within the span",
+            );
+        }
+    }
+    Second { m, sides, spans }
+}
+
+/// A point inside an upright rectangle, given from low-low counterclockwise, as
+/// weights on its four corners.
+fn inner_weights(corners: &[Point], p: Point) -> Vec<i128> {
+    let (low, high) = (corners[0], corners[2]);
+    let (left, right) = (p.0 - low.0, high.0 - p.0);
+    let (below, above) = (p.1 - low.1, high.1 - p.1);
+    let all = [right * above, left * above, left * below, right * below];
+    let g = all.iter().fold(0, |g, w| gcd(g, *w));
+    all.iter().map(|w| w / g).collect()
+}
+
+impl Second {
+    fn empty(&self) -> Option<usize> {
+        self.spans.iter().position(|span| span.is_none())
+    }
+
+    fn extremes(&self) -> Span {
+        let spans: Vec<Span> = self.spans.iter().flatten().copied().collect();
+        spans[1..]
+            .iter()
+            .fold(spans[0], |(first, last), &(begin, end)| {
+                let first = if first.before(begin) { begin } else { first };
+                (first, if end.before(last) { end } else { last })
+            })
+    }
+
+    fn move_block(&self) -> String {
+        let m = &self.m;
+        let answer = match self.empty() {
+            Some(k) => format!("No: on side {k} they share at most one value at each."),
+            None => {
+                let (first, last) = self.extremes();
+                format!("Yes, at all times between {first} and {last} and at no others.")
+            }
+        };
+        format!(
+            "A is {} and {}. B is {} and {}. The limit T is {}.\n\n\
+             *Do the outlines share an inner point at some time of the move?* {answer}\n",
+            list(&m.a),
+            goes(m.va),
+            list(&m.b),
+            goes(m.vb),
+            m.limit
+        )
+    }
+
+    /// The spans; where one is empty, up to the lowest such side.
+    fn spans_block(&self) -> String {
+        let shown = self.empty().map_or(self.sides.len(), |k| k + 1);
+        let row = |k: usize| {
+            let s = &self.sides[k];
+            let span = match (self.spans[k], s.uncut) {
+                (Some((begin, end)), Some((from, to))) => {
+                    format!("{} | {}", from.becomes(begin), to.becomes(end))
+                }
+                (Some((begin, end)), None) => format!("{begin} | {end}"),
+                (None, Some((from, _))) => {
+                    let (at, limit) = (from.becomes(from.reduced()), self.m.limit);
+                    check(from.n == limit * from.d, "the begin is the limit");
+                    format!("none: {at} is not before {limit}/1 | none")
+                }
+                _ => panic!("the document has no such empty span"),
+            };
+            let w = difference(s.speed_b, s.speed_a, s.w);
+            let lo = difference(s.a.0, s.b.1, s.lo);
+            let hi = difference(s.a.1, s.b.0, s.hi);
+            let (a, b) = (s.a, s.b);
+            let intervals = format!("{} to {} | {} to {}", a.0, a.1, b.0, b.1);
+            format!("{k} | {intervals} | {w} | {lo} | {hi} | {span}")
+        };
+        let rows: Vec<String> = (0..shown).map(row).collect();
+        let head = "Side | A's interval | B's interval | w | lo | hi | Begin | End";
+        table(head, &rows)
+    }
+
+    fn verdict_block(&self) -> String {
+        if let Some(k) = self.empty() {
+            check(
+                self.sides[k].span.is_some_and(|(begin, end)| begin == end),
+                "in the first edition it is one time",
+            );
+            return format!(
+                "The lowest side whose span is empty is {k}: **clear by side {k}**. \
+                 In edition 1 the span of side {k} is the one time {}/1, and the answer is contact.\n",
+                self.m.limit
+            );
+        }
+        let (first, last) = self.extremes();
+        let (l, r) = (first.n * last.d, last.n * first.d);
+        check(l < r, "the greatest begin is below the least end");
+        format!(
+            "The greatest begin is {first}, the least end is {last}. {}·{} = {l} and {}·{} = {r}; \
+             {l} is below {r}: **contact from {first} to {last}**.\n",
+            first.n, last.d, last.n, first.d
+        )
+    }
+
+    /// When the intervals of the side share at most one value.
+    fn apart_block(&self, k: usize) -> String {
+        let s = &self.sides[k];
+        let (t, w, gap) = (self.m.limit, s.speed_a - s.speed_b, s.b.0 - s.a.1);
+        check(w > 0 && w * t == gap, "B comes down to A and is there at T");
+        let row = format!(
+            "{k} | A: {} | B: {} | {w}·n ≤ {gap}·d | n/d is not after {t}/1",
+            term(s.a.1, s.speed_a),
+            term(s.b.0, s.speed_b)
+        );
+        let head = "Side | Greatest of the lower | Least of the upper | The lower is not above exactly when | That is";
+        table(head, &[row])
+    }
+
+    /// An inner common point at a time: the middle of what they have in common.
+    fn weights_row(&self, t: Time) -> String {
+        let m = &self.m;
+        let (a, b) = (moved(&m.a, m.va, t), moved(&m.b, m.vb, t));
+        let low = Point(a[0].0.max(b[0].0), a[0].1.max(b[0].1));
+        let high = Point(a[2].0.min(b[2].0), a[2].1.min(b[2].1));
+        let twice = |corners: &[Point]| corners.iter().map(|c| c.times(2)).collect::<Vec<_>>();
+        let on_a = inner_weights(&twice(&a), low.plus(high));
+        let on_b = inner_weights(&twice(&b), low.plus(high));
+        let (total_a, total_b) = (on_a.iter().sum::<i128>(), on_b.iter().sum::<i128>());
+        let g = gcd(total_a, total_b);
+        let times = |all: &[i128], by: i128| all.iter().map(|w| w * by).collect::<Vec<_>>();
+        let (on_a, on_b) = (times(&on_a, total_b / g), times(&on_b, total_a / g));
+        let (total, sum) = (on_a.iter().sum::<i128>(), weighted(&on_a, &a));
+        check(
+            on_a.iter().chain(&on_b).all(|w| *w > 0),
+            "all weights are above zero",
+        );
+        check(total == on_b.iter().sum(), "the totals are the same");
+        check(sum == weighted(&on_b, &b), "the weighted sums agree");
+        let of = |corners: &[Point], on: &[i128]| format!("{} | {}", list(corners), list(on));
+        format!(
+            "{t} | {} | {} | {total} | {sum}",
+            of(&a, &on_a),
+            of(&b, &on_b)
+        )
+    }
+
+    fn weights_block(&self) -> String {
+        let (first, last) = self.extremes();
+        let row = |t: Time| {
+            check(first.before(t) && t.before(last), "the time is between");
+            self.weights_row(t)
+        };
+        let rows = [(7, 2), (5, 1), (13, 2)].map(|(n, d)| row(Time { n, d }));
+        let head = "n/d | A's corners, times d | Weights | B's corners, times d | Weights | Each total | Each weighted sum";
+        table(head, &rows)
+    }
+
+    /// As the linked library hands them out.
+    fn numbers(&self) -> String {
+        let mut all = [0; 11];
+        match self.empty() {
+            Some(k) => all[1] = k as i128,
+            None => {
+                let (first, last) = self.extremes();
+                all[0] = 3;
+                all[3..7].copy_from_slice(&[first.n, first.d, last.n, last.d]);
+            }
+        }
+        all.map(|n| n.to_string()).join(" ")
+    }
+
+    fn numbers_block(&self) -> String {
+        let meaning = match self.empty() {
+            Some(k) => format!("Case 0, clear by one; side {k}. Nothing else is said."),
+            None => {
+                let (first, last) = self.extremes();
+                format!("Case 3, contact in edition 2; no sides; first {first}; last {last}; no bearing, no showing.")
+            }
+        };
+        format!("    {}\n\n{meaning}\n", self.numbers())
+    }
+
+    fn print(&self, name: &str) {
+        let block = |what: &str, content: String| block(&format!("{name} second {what}"), content);
+        block("move", self.move_block());
+        block("spans", self.spans_block());
+        block("verdict", self.verdict_block());
+        match self.empty() {
+            Some(k) => block("apart", self.apart_block(k)),
+            None => block("weights", self.weights_block()),
+        }
+        block("numbers", self.numbers_block());
+    }
+}
+
+// ---------------------------------------------------------------------------
 // The log.
 
 /// The numbers are those of two bytes, and half of them, but for the line
@@ -1644,12 +1885,16 @@ fn main() {
     });
     let trays = read_trays(R);
     let trayed = trayed(&trays);
+    let seconds = SECOND.map(|name| (name, second(name)));
     match wanted.as_str() {
         "--print" => {
             for (name, m, sides, v) in &worked {
                 print(name, m, &p1, sides, *v);
             }
             trayed.print();
+            for (name, second) in &seconds {
+                second.print(name);
+            }
             for (name, m, w) in &wrong {
                 block(&format!("{name} move"), refused_block(m, w));
                 block(&format!("{name} edge"), edge_block(w));
@@ -1679,8 +1924,12 @@ fn main() {
         "--log-answers" => worked_log()
             .iter()
             .for_each(|(.., line)| println!("{}", hex(&line.answer))),
+        "--second" => seconds.iter().for_each(|(_, s)| println!("{}", s.m.line)),
+        "--second-numbers" => seconds
+            .iter()
+            .for_each(|(_, s)| println!("{}", s.numbers())),
         _ => {
-            eprintln!("usage: by_hand --print | --lines | --answers | --log | --log-answers");
+            eprintln!("usage: by_hand --print | --lines | --answers | --log | --log-answers | --second | --second-numbers");
             std::process::exit(2);
         }
     }

@@ -28,6 +28,7 @@ static uint8_t edge, kind;
 static int64_t a[2 * CORNERS], b[2 * CORNERS], numbers[STONEFRUITLE_NUMBERS];
 static uint8_t rectangle_line[STONEFRUITLE_RECTANGLES_ROOM];
 static int64_t low_high_a[4], low_high_b[4], rectangle_numbers[STONEFRUITLE_RECTANGLES_NUMBERS];
+static uint64_t answer_numbers[STONEFRUITLE_ANSWER_NUMBERS];
 static const size_t rectangle_length = STONEFRUITLE_RECTANGLES_ROOM - 1;
 static const size_t count = 2 * CORNERS;
 static int64_t vax, vay, vbx, vby, limit;
@@ -41,6 +42,16 @@ static void call_answer_line(void) { stonefruitle_answer_line(line, line_length,
 static void call_answer_lists(void)
 {
     stonefruitle_answer_lists(a, count, b, count, vax, vay, vbx, vby, limit, out, sizeof out, &written, &edge);
+}
+
+static void call_answer_edition_1(void)
+{
+    stonefruitle_answer_edition(1, a, count, b, count, vax, vay, vbx, vby, limit, answer_numbers, &edge);
+}
+
+static void call_answer_edition_2(void)
+{
+    stonefruitle_answer_edition(2, a, count, b, count, vax, vay, vbx, vby, limit, answer_numbers, &edge);
 }
 
 static void call_write_move(void)
@@ -99,6 +110,8 @@ static const struct {
     {"answer_rectangles", call_answer_rectangles},
     {"write_rectangles", call_write_rectangles},
     {"read_rectangles", call_read_rectangles},
+    {"answer_edition in edition 1", call_answer_edition_1},
+    {"answer_edition in edition 2", call_answer_edition_2},
 };
 enum { FUNCTIONS = sizeof functions / sizeof functions[0] };
 

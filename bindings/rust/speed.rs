@@ -13,7 +13,9 @@ mod frame;
 #[allow(dead_code)]
 #[path = "../../independent/src/generate.rs"]
 mod generate;
-
+#[allow(dead_code)]
+#[path = "../../independent/src/rails.rs"]
+mod rails;
 #[allow(dead_code)]
 #[path = "../../independent/src/rectangle.rs"]
 mod rectangle;

@@ -1,7 +1,7 @@
 //! The checker for Rust programs: safe functions over the static library.
 //!
 //! **`Ok` and "no refusal" mean "not refused", and a contact is not refused.** A caller who goes on `Ok` drives into the
-//! other carriage. Let a move go where `Answer::is_clear` says so, and on nothing else: `examples/rust/answer.rs` does.
+//! other carriage. Let a move go where `is_clear` of its answer says so, and on nothing else: `examples/rust/answer.rs` does.
 //! `docs/FORMAT.md` has every byte of the lines; the head of `include/stonefruitle.h` says what a call costs.
 //!
 //! Standard library only. From the top of the repository:
@@ -13,7 +13,7 @@
 //! ```
 //!
 //! What each function answers is proved of the library (`crates/stonefruitle_c/src/lib.rt`). Not proved is this file:
-//! the calls below, and that `Answer::of_line` takes an answer line apart as it is put together.
+//! the calls below, and that `Answer::of_line` and `EditionAnswer` take answers apart as they are put together.
 
 use linked::*;
 use std::fmt;
@@ -43,6 +43,20 @@ pub mod linked {
             out: *mut u8,
             out_length: usize,
             written: *mut usize,
+            edge: *mut u8,
+        ) -> u8;
+        pub fn stonefruitle_answer_edition(
+            edition: u64,
+            a: *const i64,
+            a_length: usize,
+            b: *const i64,
+            b_length: usize,
+            vax: i64,
+            vay: i64,
+            vbx: i64,
+            vby: i64,
+            limit: i64,
+            numbers: *mut u64,
             edge: *mut u8,
         ) -> u8;
         pub fn stonefruitle_write_move(
@@ -162,6 +176,9 @@ pub const RECTANGLES_ROOM: usize = 55;
 pub const NUMBERS: usize = 71;
 pub const RECTANGLES_NUMBERS: usize = 13;
 
+/// How many numbers an answer in an edition is.
+pub const ANSWER_NUMBERS: usize = 11;
+
 /// The kinds of a move line.
 #[derive(Clone, Copy, Debug, PartialEq, Eq)]
 pub enum Kind {
@@ -198,6 +215,8 @@ pub enum Refusal {
     Second(u8),
     /// 10: a line of a log whose number does not follow the kept one.
     Order,
+    /// 11: the edition named is neither 1 nor 2. It comes before `Count`.
+    Edition,
 }
 
 impl Refusal {
@@ -213,6 +232,7 @@ impl Refusal {
             Refusal::First(_) => 8,
             Refusal::Second(_) => 9,
             Refusal::Order => 10,
+            Refusal::Edition => 11,
         }
     }
 
@@ -224,7 +244,7 @@ impl Refusal {
         }
     }
 
-    /// The refusal of a number from 1 to 10, with the edge that stands beside 8 and 9; it is not looked at beside the others.
+    /// The refusal of a number from 1 to 11, with the edge that stands beside 8 and 9; it is not looked at beside the others.
     fn of(number: u8, edge: u8) -> Option<Refusal> {
         match number {
             1 => Some(Refusal::Room),
@@ -237,15 +257,16 @@ impl Refusal {
             8 => Some(Refusal::First(edge)),
             9 => Some(Refusal::Second(edge)),
             10 => Some(Refusal::Order),
+            11 => Some(Refusal::Edition),
             _ => None,
         }
     }
 
-    /// What a call returned and left as the edge: no refusal for 0. The library returns no number above 10.
+    /// What a call returned and left as the edge: no refusal for 0. The library returns no number above 11.
     fn returned(number: u8, edge: u8) -> Option<Refusal> {
         match number {
             0 => None,
-            n => Some(Refusal::of(n, edge).expect("a refusal is from 1 to 10")),
+            n => Some(Refusal::of(n, edge).expect("a refusal is from 1 to 11")),
         }
     }
 }
@@ -263,6 +284,7 @@ impl fmt::Display for Refusal {
             Refusal::First(_) => "the first outline is not sound",
             Refusal::Second(_) => "the second outline is not sound",
             Refusal::Order => "the line of the log is out of order",
+            Refusal::Edition => "there is no such edition",
         };
         match self.edge() {
             None => f.write_str(why),
@@ -403,6 +425,18 @@ pub enum Showing {
     Edges(u8, u8),
 }
 
+impl Showing {
+    /// Of its kind and two numbers.
+    fn of(kind: u8, p: u8, q: u8) -> Option<Showing> {
+        match kind {
+            0 => Some(Showing::CornerOfA(p)),
+            1 => Some(Showing::CornerOfB(p)),
+            2 => Some(Showing::Edges(p, q)),
+            _ => None,
+        }
+    }
+}
+
 /// The answer to a move that is not refused: clear, or contact.
 #[derive(Clone, Copy, Debug, PartialEq, Eq)]
 pub enum Answer {
@@ -447,22 +481,75 @@ impl Answer {
             [0x81, 0x00, k] => Some(Ok(Answer::ClearByOne(k))),
             [0x81, 0x01, i, j] => Some(Ok(Answer::ClearByTwo(i, j))),
             [0x81, 0x02, .., bearing, kind, p, q] if frame.len() == 22 => {
-                let showing = match kind {
-                    0 => Showing::CornerOfA(p),
-                    1 => Showing::CornerOfB(p),
-                    2 => Showing::Edges(p, q),
-                    _ => return None,
-                };
                 Some(Ok(Answer::Contact {
                     first: time(2),
                     last: time(10),
                     bearing: if bearing == 0xff { None } else { Some(bearing) },
-                    showing,
+                    showing: Showing::of(kind, p, q)?,
                 }))
             }
             [0x81, 0xff, r, edge] if r == 8 || r == 9 => Refusal::of(r, edge).map(Err),
-            [0x81, 0xff, r] if r != 8 && r != 9 => Refusal::of(r, 0).map(Err),
+            // No line names an edition, so that none says 11.
+            [0x81, 0xff, r] if r != 8 && r != 9 && r != 11 => Refusal::of(r, 0).map(Err),
             _ => None,
+        }
+    }
+}
+
+/// The answer in edition 2 of the house rule, in which only shared inner points count: outlines that touch are clear.
+#[derive(Clone, Copy, Debug, PartialEq, Eq)]
+pub enum SecondAnswer {
+    /// On this side the outlines' intervals share at most one value for the whole of the move.
+    ClearByOne(u8),
+    /// At each time they do so on one of these two sides.
+    ClearByTwo(u8, u8),
+    /// The outlines share an inner point at some time of the move. These are the greatest lower and the least upper bound of
+    /// such times, and need not be such times themselves.
+    Contact { first: Time, last: Time },
+}
+
+/// The answer to a move that is not refused, in the edition that was named.
+#[derive(Clone, Copy, Debug, PartialEq, Eq)]
+pub enum EditionAnswer {
+    /// Named 1: what `answer_lists` answers.
+    First(Answer),
+    /// Named 2.
+    Second(SecondAnswer),
+}
+
+impl EditionAnswer {
+    /// Whether the move may be let go by the edition that was named.
+    pub fn is_clear(&self) -> bool {
+        match self {
+            EditionAnswer::First(answer) => answer.is_clear(),
+            EditionAnswer::Second(SecondAnswer::Contact { .. }) => false,
+            EditionAnswer::Second(_) => true,
+        }
+    }
+
+    /// Of the numbers that a call in edition 1 or 2 leaves where it refuses nothing.
+    fn of_numbers(edition: u64, numbers: &[u64; ANSWER_NUMBERS]) -> EditionAnswer {
+        let byte = |at: usize| u8::try_from(numbers[at]).expect("sides and corners are few");
+        let number = |at: usize| u32::try_from(numbers[at]).expect("n and d have four bytes");
+        let time = |at: usize| Time {
+            n: number(at),
+            d: number(at + 1),
+        };
+        let (first, last) = (time(3), time(5));
+        match (edition, numbers[0]) {
+            (1, 0) => EditionAnswer::First(Answer::ClearByOne(byte(1))),
+            (1, 1) => EditionAnswer::First(Answer::ClearByTwo(byte(1), byte(2))),
+            (1, 2) => EditionAnswer::First(Answer::Contact {
+                first,
+                last,
+                bearing: Some(byte(7)).filter(|side| *side != 255),
+                showing: Showing::of(byte(8), byte(9), byte(10))
+                    .expect("a showing is of kind 0 to 2"),
+            }),
+            (2, 0) => EditionAnswer::Second(SecondAnswer::ClearByOne(byte(1))),
+            (2, 1) => EditionAnswer::Second(SecondAnswer::ClearByTwo(byte(1), byte(2))),
+            (2, 3) => EditionAnswer::Second(SecondAnswer::Contact { first, last }),
+            _ => panic!("an edition has three cases"),
         }
     }
 }
@@ -520,6 +607,15 @@ pub fn answer_lists(m: &Move) -> Result<Answer, Refusal> {
     let mut out = [0; ANSWER_ROOM];
     let written = answer_lists_into(m, &mut out);
     said(&out, written)
+}
+
+/// The answer to a move handed in as numbers, in the edition named, 1 or 2; any other number is refused with `Edition`.
+pub fn answer_edition(edition: u64, m: &Move) -> Result<EditionAnswer, Refusal> {
+    let mut numbers = [0; ANSWER_NUMBERS];
+    match answer_edition_into(edition, m, &mut numbers) {
+        Some(refusal) => Err(refusal),
+        None => Ok(EditionAnswer::of_numbers(edition, &numbers)),
+    }
 }
 
 /// The answer to a move of two rectangles.
@@ -617,6 +713,35 @@ pub fn read_move_into(line: &[u8], numbers: &mut [i64; NUMBERS]) -> Option<Refus
     let mut edge = 0;
     let refusal = unsafe {
         stonefruitle_read_move(line.as_ptr(), line.len(), numbers.as_mut_ptr(), &mut edge)
+    };
+    Refusal::returned(refusal, edge)
+}
+
+/// The answer in an edition as 11 numbers, all of which are written: the case, two sides, n and d of first, n and d of last,
+/// the bearing, the kind of the showing and its two numbers. `include/stonefruitle.h` says what each means. Where the move is
+/// refused they are all zero.
+pub fn answer_edition_into(
+    edition: u64,
+    m: &Move,
+    numbers: &mut [u64; ANSWER_NUMBERS],
+) -> Option<Refusal> {
+    let mut edge = 0;
+    // As below: the lengths are those of the lists, and the library writes the 11 numbers and one edge.
+    let refusal = unsafe {
+        stonefruitle_answer_edition(
+            edition,
+            m.a.as_ptr(),
+            m.a.len(),
+            m.b.as_ptr(),
+            m.b.len(),
+            m.velocity_a.0,
+            m.velocity_a.1,
+            m.velocity_b.0,
+            m.velocity_b.1,
+            m.limit,
+            numbers.as_mut_ptr(),
+            &mut edge,
+        )
     };
     Refusal::returned(refusal, edge)
 }

@@ -1,10 +1,13 @@
 //! Tests of the linked library through `stonefruitle.rs`: the paper's twelve cases, many moves and logs compared with the
 //! independent program, and the lent bytes that must stay, the places for a kind and an edge among them. Rectangles are in
-//! `tests_rectangles.rs`. `tests/linked` builds and runs them.
+//! `tests_rectangles.rs`, the editions in `tests_editions.rs`. `tests/linked` builds and runs them.
 
 #[allow(dead_code)]
 #[path = "../../independent/src/checker.rs"]
 mod checker;
+#[allow(dead_code)]
+#[path = "../../independent/src/edition.rs"]
+mod edition;
 #[allow(dead_code)]
 #[path = "../../independent/src/frame.rs"]
 mod frame;
@@ -15,11 +18,15 @@ mod generate;
 #[path = "../../independent/src/log.rs"]
 mod log;
 #[allow(dead_code)]
+#[path = "../../independent/src/rails.rs"]
+mod rails;
+#[allow(dead_code)]
 #[path = "../../independent/src/rectangle.rs"]
 mod rectangle;
 #[allow(dead_code)]
 #[path = "../../independent/src/runs.rs"]
 mod runs;
+mod tests_editions;
 mod tests_rectangles;
 #[allow(dead_code)]
 #[path = "../../independent/src/trays.rs"]
@@ -333,6 +340,7 @@ fn refused(refusal: frame::Refusal) -> Refusal {
         frame::Refusal::First(edge) => Refusal::First(edge as u8),
         frame::Refusal::Second(edge) => Refusal::Second(edge as u8),
         frame::Refusal::Order => Refusal::Order,
+        frame::Refusal::Edition => Refusal::Edition,
     }
 }
 
@@ -522,6 +530,7 @@ fn check_lists(what: &str, m: &Lists, extra: usize) -> Result<Verdict, frame::Re
         });
     }
     check_edges_of_lists(what, m, refusal, extra);
+    tests_editions::check(what, m, &expected, extra);
     answer
 }
 

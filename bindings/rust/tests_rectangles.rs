@@ -169,6 +169,11 @@ fn check_ways_round(what: &str, m: &RectangleMove, line: &[u8]) {
         velocity_b: m.velocity_b,
         limit: m.limit,
     };
+    assert_eq!(
+        answer_edition(1, &corners),
+        answer.map(EditionAnswer::First),
+        "{what}"
+    );
     let from_numbers = asked(|out| answer_rectangles_into(m, out), 60);
     let from_corners = asked(|out| answer_lists_into(&corners, out), 60);
     assert_eq!(from_numbers, from_corners, "{what}");
