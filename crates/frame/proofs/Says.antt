@@ -1,5 +1,5 @@
 -- Every answer fits its frame: what is named is a side, of which there are at most 32, or a corner or an edge, of which an outline has at most 16, and the times are ends of spans, which are short.
-use mathlib.Core.Path.{_≡_, subst}
+use mathlib.Core.Path.{_≡_, sym, subst}
 use mathlib.Core.Bool.{Bool}
 use mathlib.Core.List.{List}
 use Prim.Native.Nat.{ℕ, _+_, _*_, _/_, _%_, _≤_, _<_}
@@ -39,6 +39,7 @@ use Rattle.moves.specs.declared.HeldMove.{HeldMove}
 use Rattle.moves.specs.declared.Reading.{Reading}
 use Rattle.moves.proofs.Listed.{held-accepted, lists-accepted}
 use Rattle.verdict.proofs.SideSpans.{spans-length}
+use Rattle.verdict.proofs.AllSides.{verdict-all}
 use Rattle.verdict.proofs.FitSpans.{sideCount-is, spans-some, spans-made}
 use Rattle.showing.proofs.ShowingLaws.{moved-length}
 use Rattle.moveline.specs.Reading.{refusalOfLine, moveOfLine}
@@ -105,10 +106,10 @@ module _ (h : HeldMove) (f : Fit h) where
       (t .0 .1, t .1 .1, cond-by SayableBearing (eqb (first .at .n) 0) _ _ (λ e. cond-by SayableBearing (ltb (touchingSide (moveHeld h)) (sideCount (moveHeld h))) _ _ (λ t. touching-few) (λ t. tt)) (λ e. few), sayable-showing _ _ (omega arith) (omega arith) (omega arith))
 
   pub sayable-verdict : Sayable (verdict (moveHeld h))
-  unfolding verdict
   sayable-verdict =
-      outcome-by (natAbs (h .limit)) l (spans-some h f First) (spans-made h f First .good) First 0 (λ o. Timed o → Sayable (verdictFrom (moveHeld h) o)) (λ i e t. side-few _) (λ a e t. (side-few _, side-few _)) (λ a e t. sayable-contact (lead (lowestTerms (firstOf l)) (firstPlace l)) (lead (lowestTerms (lastOf l)) (lastPlace l)) (side-few _) t)
-      (outcome-timed First 0 (natAbs (h .limit)) l (spans-some h f First) (spans-made h f First))
+      subst Sayable (sym (verdict-all (moveHeld h)))
+      (outcome-by (natAbs (h .limit)) l (spans-some h f First) (spans-made h f First .good) First 0 (λ o. Timed o → Sayable (verdictFrom (moveHeld h) o)) (λ i e t. side-few _) (λ a e t. (side-few _, side-few _)) (λ a e t. sayable-contact (lead (lowestTerms (firstOf l)) (firstPlace l)) (lead (lowestTerms (lastOf l)) (lastPlace l)) (side-few _) t)
+      (outcome-timed First 0 (natAbs (h .limit)) l (spans-some h f First) (spans-made h f First)))
 
 -- ---- the answers
 pub sayable-reading : (r : Reading) → Readable r → Sayable (answerBy (r .refusal) (moveHeld (r .held)))

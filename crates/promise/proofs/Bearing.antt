@@ -39,6 +39,7 @@ use Rattle.span.specs.declared.Edition.the-variants.{First}
 use Rattle.span.proofs.Outcomes.{outcome-by}
 use Rattle.promise.proofs.Promised.{accepted-wide}
 use Rattle.verdict.proofs.SideSpans.{spans-length, spans-at, spans-good}
+use Rattle.verdict.proofs.AllSides.{verdict-all}
 use Rattle.span.specs.Outcome.{begin, firstOf, lastOf, firstPlace, lead}
 use Rattle.span.proofs.Firsts.{AllFull, firstPlace-at, first-proper, in-all}
 use Rattle.promise.specs.Bears.{TouchAt, OverlapAt, BearingPromise}
@@ -163,10 +164,10 @@ two-contact : (i j : ℕ) (e : Evidence) → _≡_ {A = Answer} (ClearByTwo i j)
 two-contact i j e is = let z : _≡_ {A = ℕ} 0 1 = cc in omega arith
 
 pub bears-wide : (m : Move) → Wide (m .a) → Wide (m .b) → (e : Evidence) → verdict m ≡ Contact e → BearingPromise m e
-unfolding verdict
 bears-wide m wa wb =
-    outcome-by (natAbs (m .limit)) (spans m) (omega (arith, spans-length First m, wa .some)) (spans-good First m (wa .some) (wb .some)) First 0 (λ o. (e : Evidence) → verdictFrom m o ≡ Contact e → BearingPromise m e)
-    (λ h p e is. absurd (one-contact _ e is)) (λ a p e is. absurd (two-contact _ _ e is)) (λ a p e is. subst (BearingPromise m) (contact-same _ e is) (bears-contact m wa wb a _ _))
+    subst (λ x. (e : Evidence) → x ≡ Contact e → BearingPromise m e) (sym (verdict-all m))
+    (outcome-by (natAbs (m .limit)) (spans m) (omega (arith, spans-length First m, wa .some)) (spans-good First m (wa .some) (wb .some)) First 0 (λ o. (e : Evidence) → verdictFrom m o ≡ Contact e → BearingPromise m e)
+    (λ h p e is. absurd (one-contact _ e is)) (λ a p e is. absurd (two-contact _ _ e is)) (λ a p e is. subst (BearingPromise m) (contact-same _ e is) (bears-contact m wa wb a _ _)))
 
 pub bears : (m : Move) → refusal m ≡ 0 → (e : Evidence) → verdict m ≡ Contact e → BearingPromise m e
 bears m z = let r = accepted-yes m z in bears-wide m (accepted-wide (m .a) (r .sound-a)) (accepted-wide (m .b) (r .sound-b))

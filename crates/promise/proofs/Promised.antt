@@ -4,7 +4,7 @@
 --   promise-lists            of the answer to a move that is handed in as lists
 --   contact-exactly          the verdict is a contact exactly when the outlines meet at some time from 0 to the limit
 --   contact-exactly-lists    so is the answer to lists
-use mathlib.Core.Path.{_≡_}
+use mathlib.Core.Path.{_≡_, sym, subst}
 use mathlib.Core.Bool.{true}
 use mathlib.Core.Logic.{_↔_}
 use mathlib.Core.List.{List}
@@ -31,6 +31,7 @@ use Rattle.verdict.specs.declared.Answer.the-variants.{Contact}
 use Rattle.moves.proofs.Accepted.{accepted-yes}
 use Rattle.moves.proofs.Listed.{lists-accepted}
 use Rattle.verdict.proofs.SideSpans.{spans-length, spans-good}
+use Rattle.verdict.proofs.AllSides.{verdict-all}
 use Rattle.promise.specs.Promise.{MeetInTime, Promise}
 use Rattle.promise.proofs.ByCase.{contact-meets}
 use Rattle.promise.proofs.Clearing.{promise-by-one, promise-by-two}
@@ -42,10 +43,10 @@ module _ (m : Move) (wa : Wide (m .a)) (wb : Wide (m .b)) where
   some = omega (arith, spans-length First m, wa .some)
 
   pub promise-wide : Promise m (verdict m)
-  unfolding verdict
   promise-wide =
-      outcome-by (natAbs (m .limit)) (spans m) some (spans-good First m (wa .some) (wb .some)) First 0 (λ o. Promise m (verdictFrom m o))
-      (λ h e. promise-by-one m wa wb (emptyPlace (spans m)) (omega (arith, spans-length First m)) e) (λ a e. promise-by-two m wa wb a e) (λ a e. promise-contact m wa wb a e _)
+      subst (Promise m) (sym (verdict-all m))
+      (outcome-by (natAbs (m .limit)) (spans m) some (spans-good First m (wa .some) (wb .some)) First 0 (λ o. Promise m (verdictFrom m o))
+      (λ h e. promise-by-one m wa wb (emptyPlace (spans m)) (omega (arith, spans-length First m)) e) (λ a e. promise-by-two m wa wb a e) (λ a e. promise-contact m wa wb a e _))
 
 -- ---- accepted moves
 pub accepted-wide : (A : List Corner) → isSound A ≡ true → Wide A

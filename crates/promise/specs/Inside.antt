@@ -4,7 +4,7 @@
 --   NeverInside m             they have none at any of these
 --   AtMostOneAt m k n d       at n/d, the projections on side k share at most one value
 --   InsidePromise m f l       f and l are the greatest lower and the least upper bound of the times at which they have one
---   PromiseInside m r         what the answer r of edition 2 to the move m promises
+--   PromiseInside m r         what the answer r of edition 2 to the move m promises, whatever number of sides w it carries
 use mathlib.Core.Path.{_≡_}
 use mathlib.Core.Logic.{_⊎_}
 use mathlib.Core.Bool.{true, false}
@@ -49,6 +49,6 @@ pub record InsidePromise (m : Move) (first last : Time) : Type 0 where
   pub near-last : (u : Time) → Proper u → before u last ≡ true → (n : ℕ) × (d : ℕ) × InTime m n d × InsideAt m n d × (before u (time n d) ≡ true)
 
 pub data PromiseInside (m : Move) : EditionAnswer → Type 0 where
-  clear-by-one : {k : ℕ} → NeverInside m → k < sideCount m → ((n d : ℕ) → InTime m n d → AtMostOneAt m k n d) → PromiseInside m (ClearByOne k)
-  clear-by-two : {i j : ℕ} → NeverInside m → i < sideCount m → j < sideCount m → ((n d : ℕ) → InTime m n d → AtMostOneAt m i n d ⊎ AtMostOneAt m j n d) → PromiseInside m (ClearByTwo i j)
-  inside : {first last : Time} → InsidePromise m first last → PromiseInside m (Inside first last)
+  clear-by-one : {k w : ℕ} → NeverInside m → k < sideCount m → ((n d : ℕ) → InTime m n d → AtMostOneAt m k n d) → PromiseInside m (ClearByOne k w)
+  clear-by-two : {i j w : ℕ} → NeverInside m → i < sideCount m → j < sideCount m → ((n d : ℕ) → InTime m n d → AtMostOneAt m i n d ⊎ AtMostOneAt m j n d) → PromiseInside m (ClearByTwo i j w)
+  inside : {first last : Time} {w : ℕ} → InsidePromise m first last → PromiseInside m (Inside first last w)

@@ -8,6 +8,7 @@ use Rattle.span.specs.declared.Outcome.the-variants.{ByOne, ByTwo, FromTo}
 use Rattle.verdict.specs.Verdict.{verdictFrom, verdict}
 use Rattle.verdict.specs.declared.Bearing.the-variants.{Side}
 use Rattle.verdict.specs.declared.Answer.the-variants.{Contact}
+use Rattle.verdict.proofs.AllSides.{verdict-all}
 use Rattle.rectangle.specs.Rectangle.{fourCorners}
 use Rattle.rectangle.specs.Refusal.{Fits}
 use Rattle.rectangle.specs.Worked.{twoSpans, workedFrom, worked}
@@ -18,8 +19,8 @@ use Rattle.rectangle.proofs.Touching.{same-bearing}
 use Rattle.rectangle.proofs.Showing.{same-showing}
 
 pub four-corners : (m : RectangleMove) → Fits m → verdict (fourCorners m) ≡ worked m
-unfolding verdict worked
-four-corners m f = ap (verdictFrom (fourCorners m)) (two-spans m f) ∙ go (outcome (twoSpans m)) refl
+unfolding worked
+four-corners m f = verdict-all (fourCorners m) ∙ ap (verdictFrom (fourCorners m)) (two-spans m f) ∙ go (outcome (twoSpans m)) refl
   where
     go : (o : Outcome) → outcome (twoSpans m) ≡ o → verdictFrom (fourCorners m) o ≡ workedFrom m o
     go (ByOne k) e = refl

@@ -5,6 +5,7 @@ pub mod InnerWindows
 pub mod Firsts
 pub mod Outcomes
 pub mod InnerOutcomes
+pub mod UpToEmpty
 pub mod Pairs
 pub mod Leading
 pub mod Alike

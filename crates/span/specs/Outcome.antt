@@ -5,8 +5,9 @@
 --   parted e T first last    in edition e the greatest begin and the least end leave no common time: the begin exceeds the end; in edition 2, for T above zero, it is at or above it
 --   outcomeIn e T l          by one: a span is empty; by two: they are parted; otherwise from first to last, in lowest terms
 --   outcome l                that of edition 1, which asks for no limit
+--   upToEmpty l     the spans in order, up to and with the first empty one
 use mathlib.Core.Bool.{Bool, true, false, cond, not}
-use mathlib.Core.List.{List, map}
+use mathlib.Core.List.{List, [], _∷_, map}
 use Prim.Native.Nat.{ℕ}
 use lib.Dec.{ltb, eqb}
 use lib.ListN.{length, getD}
@@ -67,3 +68,7 @@ outcomeIn e T l =
 
 abbrev pub outcome : List Span → Outcome
 outcome l = outcomeIn First 0 l
+
+unfoldable pub upToEmpty : List Span → List Span
+upToEmpty [] = []
+upToEmpty (s ∷ l) = cond (isEmpty s) (s ∷ []) (s ∷ upToEmpty l)

@@ -1,4 +1,4 @@
-// An answer of a named edition as 11 numbers.
+// An answer of a named edition as 12 numbers.
 ghost use mathlib.Core.Path.{_≡_};
 ghost use Rattle.verdict.specs.Answer.{bearingNumber, showingNumbers};
 ghost use Rattle.verdict.specs.declared.editions.EditionAnswer.the-variants.{Contact, Inside};
@@ -32,8 +32,8 @@ fn showing_numbers(s: Showing) -> [u64; 3]
 }
 
 // The numbers of a contact in edition 1.
-fn contact_numbers(e: Evidence) -> [u64; 11]
-    ensures { λ r. ⌜ r ≡ editionNumbers (Contact e) ⌝ }
+fn contact_numbers(e: Evidence, worked: usize) -> [u64; 12]
+    ensures { λ r. ⌜ r ≡ editionNumbers (Contact e worked) ⌝ }
 {
     let first = e.first;
     let last = e.last;
@@ -53,26 +53,42 @@ fn contact_numbers(e: Evidence) -> [u64; 11]
         shown[0],
         shown[1],
         shown[2],
+        worked as u64,
     ]
 }
 
 // The numbers of a contact in edition 2.
-fn inside_numbers(first: Time, last: Time) -> [u64; 11]
-    ensures { λ r. ⌜ r ≡ editionNumbers (Inside first last) ⌝ }
+fn inside_numbers(first: Time, last: Time, worked: usize) -> [u64; 12]
+    ensures { λ r. ⌜ r ≡ editionNumbers (Inside first last worked) ⌝ }
 {
-    [3, 0, 0, first.n, first.d, last.n, last.d, 0, 0, 0, 0]
+    [
+        3,
+        0,
+        0,
+        first.n,
+        first.d,
+        last.n,
+        last.d,
+        0,
+        0,
+        0,
+        0,
+        worked as u64,
+    ]
 }
 
 // The numbers of any answer.
-pub fn edition_numbers(r: EditionAnswer) -> [u64; 11]
+pub fn edition_numbers(r: EditionAnswer) -> [u64; 12]
     ensures { λ x. ⌜ x ≡ editionNumbers r ⌝ }
 {
     match r {
-        EditionAnswer::ClearByOne(k) => [0, k as u64, 0, 0, 0, 0, 0, 0, 0, 0, 0],
-        EditionAnswer::ClearByTwo(i, j) => [1, i as u64, j as u64, 0, 0, 0, 0, 0, 0, 0, 0],
-        EditionAnswer::Contact(e) => contact_numbers(e),
-        EditionAnswer::Inside(first, last) => inside_numbers(first, last),
-        EditionAnswer::Refused(_) => [0, 0, 0, 0, 0, 0, 0, 0, 0, 0, 0],
+        EditionAnswer::ClearByOne(k, w) => [0, k as u64, 0, 0, 0, 0, 0, 0, 0, 0, 0, w as u64],
+        EditionAnswer::ClearByTwo(i, j, w) => {
+            [1, i as u64, j as u64, 0, 0, 0, 0, 0, 0, 0, 0, w as u64]
+        }
+        EditionAnswer::Contact(e, w) => contact_numbers(e, w),
+        EditionAnswer::Inside(first, last, w) => inside_numbers(first, last, w),
+        EditionAnswer::Refused(_) => [0, 0, 0, 0, 0, 0, 0, 0, 0, 0, 0, 0],
     }
 }
 
@@ -81,10 +97,10 @@ pub fn refusal_in(r: EditionAnswer) -> Refusal
     ensures { λ x. ⌜ x ≡ refusalIn r ⌝ }
 {
     match r {
-        EditionAnswer::ClearByOne(_) => Refusal::None,
-        EditionAnswer::ClearByTwo(_, _) => Refusal::None,
-        EditionAnswer::Contact(_) => Refusal::None,
-        EditionAnswer::Inside(_, _) => Refusal::None,
+        EditionAnswer::ClearByOne(_, _) => Refusal::None,
+        EditionAnswer::ClearByTwo(_, _, _) => Refusal::None,
+        EditionAnswer::Contact(_, _) => Refusal::None,
+        EditionAnswer::Inside(_, _, _) => Refusal::None,
         EditionAnswer::Refused(why) => why,
     }
 }

@@ -89,9 +89,9 @@ pub extern "C" fn stonefruitle_answer_rectangles(
     outline::number_of(why)
 }
 
-// The answer to a move handed in as numbers in the edition of the house rule that is named, as 11 numbers: the case (0 clear by one, 1 clear by two,
+// The answer to a move handed in as numbers in the edition of the house rule that is named, as 12 numbers: the case (0 clear by one, 1 clear by two,
 // 2 contact in edition 1, 3 contact in edition 2), the two sides named, n and d of first, n and d of last, the bearing (255 for none), the showing's kind
-// and its two numbers; 0 where there is nothing to say, all zeros where the move is refused.
+// and its two numbers, the sides worked; 0 where there is nothing to say, all zeros where the move is refused.
 #[no_mangle]
 pub extern "C" fn stonefruitle_answer_edition(
     edition: u64,
@@ -102,7 +102,7 @@ pub extern "C" fn stonefruitle_answer_edition(
     vbx: i64,
     vby: i64,
     limit: i64,
-    into: &mut [u64; 11],
+    into: &mut [u64; 12],
     edge: &mut u8,
 ) -> u8
     ensures { λ r. ⌜ Hands (refusalIn (answerIn edition (now (a .entry)) (now (b .entry)) (point vax vay) (point vbx vby) limit)) r (now (edge .entry)) (now (edge .exit)) × (now (into .exit) ≡ editionNumbers (answerIn edition (now (a .entry)) (now (b .entry)) (point vax vay) (point vbx vby) limit)) ⌝ }

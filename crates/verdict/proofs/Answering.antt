@@ -14,16 +14,17 @@ use Rattle.moves.proofs.Carrying.{carried-isNone}
 use Rattle.moves.proofs.Listed.{reading-none, reading-some, held-accepted}
 use Rattle.outline.specs.Refusal.{isNone}
 use Rattle.outline.specs.declared.Refusal.{Refusal}
+use Rattle.span.specs.declared.Edition.{Edition}
 use Rattle.verdict.specs.Verdict.{verdict}
 use Rattle.verdict.specs.Answer.{answerUnless, answerBy}
-use Rattle.verdict.specs.Editions.{verdictInside, insideUnless}
+use Rattle.verdict.specs.Editions.{verdictIn, verdictUnless}
 use Rattle.verdict.specs.declared.Answer.the-variants.{Refused}
 use Rattle.verdict.specs.declared.editions.EditionAnswer.{EditionAnswer}
-use Rattle.verdict.specs.declared.editions.EditionAnswer.the-variants as inside
+use Rattle.verdict.specs.declared.editions.EditionAnswer.the-variants as named
 
--- of a move that was read: its refusal, or the verdict of edition 2 on it
-abbrev pub insideBy : Reading → EditionAnswer
-insideBy r = cond (isNone (r .refusal)) (verdictInside (moveHeld (r .held))) (inside.Refused (r .refusal))
+-- of a move that was read: its refusal, or the verdict of the edition on it
+abbrev pub verdictBy : Edition → Reading → EditionAnswer
+verdictBy e r = cond (isNone (r .refusal)) (verdictIn e (moveHeld (r .held))) (named.Refused (r .refusal))
 
 module _ (r : ℕ) (m : Move) (ok : r ≡ 0 → refusal m ≡ 0) where
   -- given what is answered to a move, and to a refusal
@@ -38,6 +39,6 @@ module _ (r : ℕ) (m : Move) (ok : r ≡ 0 → refusal m ≡ 0) where
   unfolding answerUnless
   reading-answer = reading-by verdict Refused
 
-  pub reading-inside : insideBy (readingUnless r m) ≡ insideUnless r m
-  unfolding insideUnless
-  reading-inside = reading-by verdictInside inside.Refused
+  pub reading-edition : (e : Edition) → verdictBy e (readingUnless r m) ≡ verdictUnless e r m
+  unfolding verdictUnless
+  reading-edition e = reading-by (verdictIn e) named.Refused

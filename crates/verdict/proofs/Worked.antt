@@ -1,4 +1,4 @@
--- The twelve cases hold by computation: each move of the table has the answers beside it, in edition 1 and in edition 2.
+-- The twelve cases hold by computation: each move of the table has the answers beside it, in edition 1 and in edition 2, and the sides worked.
 use mathlib.Core.Path.{_≡_, refl}
 use mathlib.Core.List.{map}
 use Rattle.whole.specs.Lowest.{lowest, every}
@@ -6,7 +6,8 @@ use Rattle.whole.specs.Best.{best}
 use Rattle.whole.specs.Time.{before, same, reduced}
 use Rattle.whole.specs.Table.{table}
 use Rattle.span.specs.Window.{windowAheadIn, windowStillIn, windowIn}
-use Rattle.span.specs.Outcome.{outcomeIn}
+use Rattle.span.specs.Outcome.{outcomeIn, upToEmpty}
+use Rattle.span.specs.declared.Edition.the-variants.{First, Second}
 use Rattle.plane.specs.Point.{cross, dot}
 use Rattle.plane.specs.Interval.{low, high, shares, touches}
 use Rattle.plane.specs.Inside.{inside, meet}
@@ -18,11 +19,11 @@ use Rattle.showing.specs.Showing.{cornerInside, edgesMeet, meetingPair, showing
 use Rattle.verdict.specs.Verdict.{verdict}
 use Rattle.moves.specs.Refusal.{refusal, carried}
 use Rattle.verdict.specs.Answer.{answerUnless, answer}
-use Rattle.verdict.specs.Editions.{verdictInside, insideUnless, answerInside}
+use Rattle.verdict.specs.Editions.{verdictInside, named, verdictUnless, answerOf}
 use Rattle.verdict.specs.Cases.{Case, cases}
 use Rattle.verdict.specs.declared.Answer.{Answer}
 use Rattle.verdict.specs.declared.editions.EditionAnswer.{EditionAnswer}
 
-pub worked : map {B = Answer × EditionAnswer} (λ (c : Case). (answer (c .asked), answerInside (c .asked))) cases ≡ map (λ (c : Case). (c .answered, c .second)) cases
-unfolding lowest every best before same reduced cross dot low high shares touches inside meet left badEdge isSound firstThatApplies counted placed sideOf windowAheadIn windowStillIn windowIn spanIn table spansIn cornerInside edgesMeet meetingPair showingOf showing outcomeIn verdict refusal carriedBy carried answerUnless answer verdictInside insideUnless
+pub worked : map {B = Answer × EditionAnswer × EditionAnswer} (λ (c : Case). (answer (c .asked), answerOf First (c .asked), answerOf Second (c .asked))) cases ≡ map (λ (c : Case). (c .answered, named (c .sides) (c .answered), c .second)) cases
+unfolding lowest every best before same reduced cross dot low high shares touches inside meet left badEdge isSound firstThatApplies counted placed sideOf windowAheadIn windowStillIn windowIn spanIn table spansIn cornerInside edgesMeet meetingPair showingOf showing outcomeIn upToEmpty verdict refusal carriedBy carried answerUnless answer verdictInside verdictUnless
 worked = refl

@@ -1,11 +1,15 @@
 -- The span of a side in an edition of the house rule: the times from 0 to the limit at which its two intervals share a value; in edition 2, more than one value.
 --   spanIn e m k     the span of side k                span m k     that of edition 1
 --   spansIn e m      the spans of all sides, in order  spans m      those of edition 1
+--   workedIn e m     the spans worked: up to and with the first empty one
+--   sidesWorked e m  the number of sides whose spans were worked
 use mathlib.Core.List.{List}
 use Prim.Native.Nat.{ℕ}
 use lib.IntN.{natAbs, _-ℤ_}
+use lib.ListN.{length}
 use Rattle.whole.specs.Table.{table}
 use Rattle.span.specs.Window.{windowIn}
+use Rattle.span.specs.Outcome.{upToEmpty}
 use Rattle.span.specs.declared.Edition.{Edition}
 use Rattle.span.specs.declared.Edition.the-variants.{First}
 use Rattle.span.specs.declared.Span.{Span}
@@ -28,3 +32,9 @@ span = spanIn First
 
 abbrev pub spans : Move → List Span
 spans = spansIn First
+
+abbrev pub workedIn : Edition → Move → List Span
+workedIn e m = upToEmpty (spansIn e m)
+
+abbrev pub sidesWorked : Edition → Move → ℕ
+sidesWorked e m = length (workedIn e m)

@@ -1,4 +1,4 @@
--- The verdict, from the outcome of the spans of all sides; the place of a span in their list is the number of its side.
+-- The verdict, from the outcome of the spans worked, which is that of the spans of all sides (a law); the place of a span in their list is the number of its side.
 --   touchingSide m     the lowest side on which the projections at time zero share exactly one value, or the number of sides where there is none
 --   bearing m first    where first is above zero, the lowest side whose begin is first; where it is zero, that touching side, or none
 --   verdictFrom m o    the verdict on the move m that the outcome o gives
@@ -8,13 +8,14 @@ use Prim.Native.Nat.{ℕ}
 use lib.Dec.{ltb, eqb}
 use Rattle.whole.specs.Lowest.{lowest}
 use Rattle.span.specs.Outcome.{outcome}
+use Rattle.span.specs.declared.Edition.the-variants.{First}
 use Rattle.span.specs.declared.Lead.{Lead}
 use Rattle.span.specs.declared.Outcome.{Outcome}
 use Rattle.span.specs.declared.Outcome.the-variants.{ByOne, ByTwo, FromTo}
 use Rattle.plane.specs.Interval.{touches}
 use Rattle.moves.specs.Move.{Move}
 use Rattle.verdict.specs.Sides.{sideCount, sideOf}
-use Rattle.verdict.specs.Span.{spans}
+use Rattle.verdict.specs.Span.{workedIn}
 use Rattle.showing.specs.Showing.{showing}
 use Rattle.verdict.specs.declared.Bearing.{Bearing}
 use Rattle.verdict.specs.declared.Bearing.the-variants.{Side, None}
@@ -36,4 +37,4 @@ verdictFrom m (ByTwo i j) = ClearByTwo i j
 verdictFrom m (FromTo first last) = Contact (record { first = first .at; last = last .at; bearing = bearing m first; showing = showing m (first .at) })
 
 unfoldable pub verdict : Move → Answer
-verdict m = verdictFrom m (outcome (spans m))
+verdict m = verdictFrom m (outcome (workedIn First m))

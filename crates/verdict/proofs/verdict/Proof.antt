@@ -7,8 +7,9 @@ use Rattle.span.specs.Outcome.{outcome}
 use Rattle.span.proofs.Outcomes.{Timed, outcome-timed, first-untimed}
 use Rattle.moves.specs.HeldMove.{moveHeld}
 use Rattle.verdict.specs.Span.{spans}
-use Rattle.verdict.specs.Verdict.{verdictFrom, verdict}
+use Rattle.verdict.specs.Verdict.{verdictFrom}
 use Rattle.verdict.proofs.FitSpans.{spans-some, spans-made}
+use Rattle.verdict.proofs.AllSides.{verdict-all}
 use Rattle.verdict.proofs.verdict.Statement.{statement}
 use Rattle.verdict.proofs.verdict.Tie as tie
 use Rattle.verdict.proofs.verdict.Reads as reads
@@ -39,16 +40,13 @@ contact-requires c κs =
     (s .pre, subst Timed (sym (c .before .before .before .outcome .ensures) ∙ c .before .o3 .given .1) (outcome-timed First (natAbs (m .limit)) (natAbs (m .limit)) (spans (moveHeld m)) (spans-some m (s .pre) First) (spans-made m (s .pre) First)) .0)
 
 returns : tie.Need-returns
-unfolding verdict
-returns c = ap (verdictFrom (moveHeld (c .before .before .before .before .args .m))) (sym (c .before .o .given .1) ∙ untimed (c .before .before .before))
+returns c = ap (verdictFrom (moveHeld (c .before .before .before .before .args .m))) (sym (c .before .o .given .1) ∙ untimed (c .before .before .before)) ∙ sym (verdict-all (moveHeld (c .before .before .before .before .args .m)))
 
 returns-2 : tie.Need-returns-2
-unfolding verdict
-returns-2 c = ap (verdictFrom (moveHeld (c .before .before .before .before .args .m))) (sym (c .before .o2 .given .1) ∙ untimed (c .before .before .before))
+returns-2 c = ap (verdictFrom (moveHeld (c .before .before .before .before .args .m))) (sym (c .before .o2 .given .1) ∙ untimed (c .before .before .before)) ∙ sym (verdict-all (moveHeld (c .before .before .before .before .args .m)))
 
 returns-3 : tie.Need-returns-3
-unfolding verdict
-returns-3 c = c .contact .ensures ∙ ap (verdictFrom (moveHeld (c .before .before .before .before .before .args .m))) (sym (c .before .before .o3 .given .1) ∙ untimed (c .before .before .before .before))
+returns-3 c = c .contact .ensures ∙ ap (verdictFrom (moveHeld (c .before .before .before .before .before .args .m))) (sym (c .before .before .o3 .given .1) ∙ untimed (c .before .before .before .before)) ∙ sym (verdict-all (moveHeld (c .before .before .before .before .before .args .m)))
 
 pub verdict-spec : {M : Type 1} → statement M
 verdict-spec =

@@ -1,6 +1,6 @@
 -- The numbers in their order; the three of the showing, read one by one, are those of its definition.
 use mathlib.Core.Path.{_≡_, refl, ap}
-use mathlib.Core.List.{[], _∷_}
+use mathlib.Core.List.{[], _∷_, _++_}
 use lib.ListN.{getD}
 use borrow.Author.Needs.{needs}
 use Rattle.verdict.specs.Answer.{bearingNumber, showingNumbers}
@@ -15,14 +15,14 @@ bearing-number-requires c κs = search needs
 showing-numbers-requires : tie.Need-showing-numbers-requires
 showing-numbers-requires c κs = search needs
 
-array-read-t11 : tie.Need-array-read-t11
-array-read-t11 c = search needs
+array-read-t12 : tie.Need-array-read-t12
+array-read-t12 c = search needs
 
-array-read-t14 : tie.Need-array-read-t14
-array-read-t14 c = search needs
+array-read-t15 : tie.Need-array-read-t15
+array-read-t15 c = search needs
 
-array-read-t17 : tie.Need-array-read-t17
-array-read-t17 c = search needs
+array-read-t18 : tie.Need-array-read-t18
+array-read-t18 c = search needs
 
 three : (s : Showing) → getD (showingNumbers s) 0 0 ∷ getD (showingNumbers s) 1 0 ∷ getD (showingNumbers s) 2 0 ∷ [] ≡ showingNumbers s
 three (CornerOfA i) = refl
@@ -31,9 +31,10 @@ three (Edges i j) = refl
 
 returns : tie.Need-returns
 returns c =
-    let e = c .before .before .before .before .args .e in
+    let a = c .before .before .before .before .args in
+    let e = a .e in
     rw (c .before .bearing-number .ensures, c .showing-numbers .ensures)
-    (ap (λ l. 2 ∷ 0 ∷ 0 ∷ e .first .n ∷ e .first .d ∷ e .last .n ∷ e .last .d ∷ bearingNumber (e .bearing) ∷ l) (three (e .showing)))
+    (ap (λ l. 2 ∷ 0 ∷ 0 ∷ e .first .n ∷ e .first .d ∷ e .last .n ∷ e .last .d ∷ bearingNumber (e .bearing) ∷ (l ++ (a .worked ∷ []))) (three (e .showing)))
 
 pub contact-numbers-spec : {M : Type 1} → statement M
 contact-numbers-spec =
@@ -41,7 +42,7 @@ contact-numbers-spec =
     (tie.spec
     bearing-number-requires
     showing-numbers-requires
-    array-read-t11
-    array-read-t14
-    array-read-t17
+    array-read-t12
+    array-read-t15
+    array-read-t18
     returns)
