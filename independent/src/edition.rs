@@ -1,8 +1,9 @@
 //! The touch rule of the 2nd edition (request Q-6): only shared inner points
-//! count. Moves come as lists, and the caller names the edition.
+//! count. Moves come as lists, and the caller names the edition. Beside the
+//! verdict stands how many sides were worked (request Q-7).
 
 use super::checker::{
-    directions, interval, verdict, Fraction, Move, Point, Showing, Span, Verdict,
+    self, directions, interval, verdict, Fraction, Move, Point, Showing, Span, Verdict,
 };
 use super::frame::Refusal;
 
@@ -14,10 +15,19 @@ pub enum Second {
     Contact { first: Fraction, last: Fraction },
 }
 
+/// The verdict of the edition named.
 #[derive(Clone, Copy, Debug, PartialEq, Eq)]
-pub enum Answer {
+pub enum Said {
     OfFirst(Verdict),
     OfSecond(Second),
+}
+
+/// What is answered to a move that is not refused.
+#[derive(Clone, Copy, Debug, PartialEq, Eq)]
+pub struct Answer {
+    pub said: Said,
+    /// How many sides' spans were worked out.
+    pub worked: usize,
 }
 
 /// A condition on the time s, `rate * s < room`.
@@ -90,39 +100,59 @@ pub fn second(m: &Move) -> Second {
     Second::Contact { first, last }
 }
 
+/// The spans worked, in order: all up to and with the first empty one.
+pub fn worked(m: &Move, span: impl Fn(&Move, Point) -> Option<Span>) -> Vec<Option<Span>> {
+    let mut worked = Vec::new();
+    for direction in directions(m) {
+        let next = span(m, direction);
+        worked.push(next);
+        if next.is_none() {
+            break;
+        }
+    }
+    worked
+}
+
 /// The answer in the edition named. Any number but 1 and 2 is refused before
 /// all that is wrong with the move.
 pub fn answer(edition: u64, asked: Result<&Move, Refusal>) -> Result<Answer, Refusal> {
     match edition {
-        1 => asked.map(|m| Answer::OfFirst(verdict(m))),
-        2 => asked.map(|m| Answer::OfSecond(second(m))),
+        1 => asked.map(|m| Answer {
+            said: Said::OfFirst(verdict(m)),
+            worked: worked(m, checker::span).len(),
+        }),
+        2 => asked.map(|m| Answer {
+            said: Said::OfSecond(second(m)),
+            worked: worked(m, span).len(),
+        }),
         _ => Err(Refusal::Edition),
     }
 }
 
-/// The eleven numbers that the linked library hands out: case, two sides, n and
-/// d of first, n and d of last, bearing, and kind and two numbers of the
-/// showing. What is not said is 0.
-pub fn numbers(answer: &Result<Answer, Refusal>) -> [u64; 11] {
-    let mut all = [0; 11];
+/// The twelve numbers that the linked library hands out: case, two sides, n and
+/// d of first, n and d of last, bearing, kind and two numbers of the showing,
+/// and how many sides were worked. What is not said is 0.
+pub fn numbers(answer: &Result<Answer, Refusal>) -> [u64; 12] {
+    let mut all = [0; 12];
+    let Ok(Answer { said, worked }) = *answer else {
+        return all;
+    };
+    all[11] = worked as u64;
     let number = |n: i128| u64::try_from(n).expect("no time is negative");
     let times = |first: Fraction, last: Fraction| [first.n, first.d, last.n, last.d].map(number);
-    match *answer {
-        Err(_) => {}
-        Ok(Answer::OfFirst(Verdict::ClearByOne(k)) | Answer::OfSecond(Second::ClearByOne(k))) => {
+    match said {
+        Said::OfFirst(Verdict::ClearByOne(k)) | Said::OfSecond(Second::ClearByOne(k)) => {
             all[1] = k as u64;
         }
-        Ok(
-            Answer::OfFirst(Verdict::ClearByTwo(i, j)) | Answer::OfSecond(Second::ClearByTwo(i, j)),
-        ) => {
+        Said::OfFirst(Verdict::ClearByTwo(i, j)) | Said::OfSecond(Second::ClearByTwo(i, j)) => {
             all[..3].copy_from_slice(&[1, i as u64, j as u64]);
         }
-        Ok(Answer::OfFirst(Verdict::Contact {
+        Said::OfFirst(Verdict::Contact {
             first,
             last,
             bearing,
             showing,
-        })) => {
+        }) => {
             all[0] = 2;
             all[3..7].copy_from_slice(&times(first, last));
             all[7] = bearing.map_or(255, |side| side as u64);
@@ -131,9 +161,9 @@ pub fn numbers(answer: &Result<Answer, Refusal>) -> [u64; 11] {
                 Showing::CornerOfB(j) => (1, j, 0),
                 Showing::Edges(i, j) => (2, i, j),
             };
-            all[8..].copy_from_slice(&[kind, p as u64, q as u64]);
+            all[8..11].copy_from_slice(&[kind, p as u64, q as u64]);
         }
-        Ok(Answer::OfSecond(Second::Contact { first, last })) => {
+        Said::OfSecond(Second::Contact { first, last }) => {
             all[0] = 3;
             all[3..7].copy_from_slice(&times(first, last));
         }

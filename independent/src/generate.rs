@@ -10,6 +10,7 @@ use super::checker::{
 };
 use super::frame::{write_move, MOST_DIGITS, REACH};
 use super::rails;
+use super::stops;
 
 #[derive(Clone, Copy, Debug, PartialEq, Eq)]
 pub enum Class {
@@ -71,6 +72,8 @@ pub enum Class {
     Straight,
     /// One of the classes of rails.rs.
     Rail(rails::Class),
+    /// One of the classes of stops.rs.
+    Stop(stops::Class),
 }
 
 /// Classes that take turns, with their names.
@@ -136,11 +139,23 @@ pub const RAILS: Set = &[
     (Class::Rail(rails::Class::Apart), "apart"),
 ];
 
-pub const SETS: [(&str, Set); 4] = [
+/// Of request Q-7: at which side work stops.
+pub const STOPS: Set = &[
+    (Class::Stop(stops::Class::AtFirst), "stop-first"),
+    (Class::Stop(stops::Class::AmidA), "stop-amid-A"),
+    (Class::Stop(stops::Class::EndsA), "stop-ends-A"),
+    (Class::Stop(stops::Class::BeginsB), "stop-begins-B"),
+    (Class::Stop(stops::Class::AmidB), "stop-amid-B"),
+    (Class::Stop(stops::Class::AtLast), "stop-last"),
+    (Class::Stop(stops::Class::Nowhere), "stop-nowhere"),
+];
+
+pub const SETS: [(&str, Set); 5] = [
     ("base", BASE),
     ("Q-1", AT_ZERO),
     ("Q-3", BAD_EDGES),
     ("Q-6", RAILS),
+    ("Q-7", STOPS),
 ];
 
 pub fn set_named(name: &str) -> Option<Set> {
@@ -197,6 +212,7 @@ pub fn sound_move(rng: &mut Rng, class: Class) -> Move {
             Class::Parting => parting(rng),
             Class::Closing => closing(rng),
             Class::Rail(class) => rails::attempt(rng, class),
+            Class::Stop(class) => stops::attempt(rng, class),
             _ => panic!("{class:?} is not a class of sound moves"),
         };
         if let Some(m) = attempt {

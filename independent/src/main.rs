@@ -8,6 +8,7 @@ mod log;
 mod rails;
 mod rectangle;
 mod runs;
+mod stops;
 mod trays;
 
 use checker::{directions, edge, touched_at_zero, verdict, Move, Showing, Verdict};
@@ -76,8 +77,8 @@ fn answer_log(input: impl BufRead, output: impl Write) -> io::Result<()> {
     })
 }
 
-/// The eleven numbers of each move of kind 01 in an edition (request Q-6), or
-/// its refusal.
+/// The twelve numbers of each move of kind 01 in an edition (requests Q-6 and
+/// Q-7), or its refusal.
 fn of_edition(input: impl BufRead, output: impl Write, number: u64) -> io::Result<()> {
     each_line(input, output, |line| {
         let read = frame::read_move(line);
@@ -252,6 +253,45 @@ fn edition_cases(m: &Move) -> Vec<&'static str> {
             _ => "otherwise",
         });
     }
+    all
+}
+
+/// The cases of request Q-7, by the number of sides worked in edition 1: `one`;
+/// those of A but the last (`in-A`), all of A (`all-A`), one more (`A+1`), more
+/// (`in-B`); all, the last being empty (`to-last`) or none (`every`), of which
+/// there are `thirty-two`. In edition 2 the number is `fewer`, or the `same`.
+const STOP_CASES: [&str; 10] = [
+    "one",
+    "in-A",
+    "all-A",
+    "A+1",
+    "in-B",
+    "to-last",
+    "every",
+    "thirty-two",
+    "fewer",
+    "same",
+];
+
+fn stop_cases(m: &Move) -> Vec<&'static str> {
+    let first = edition::worked(m, checker::span);
+    let second = edition::worked(m, edition::span);
+    let (count_a, every) = (m.a.len(), m.a.len() + m.b.len());
+    let mut all = vec![match first.len() {
+        1 => "one",
+        n if n < count_a => "in-A",
+        n if n == count_a => "all-A",
+        n if n == every && first[n - 1].is_none() => "to-last",
+        n if n == every => "every",
+        n if n == count_a + 1 => "A+1",
+        _ => "in-B",
+    }];
+    all.extend((first.len() == 32).then_some("thirty-two"));
+    // What is empty in edition 1 is so in edition 2.
+    all.push(match second.len() < first.len() {
+        true => "fewer",
+        false => "same",
+    });
     all
 }
 
@@ -495,6 +535,7 @@ fn count(mut output: impl Write, seed: u64, count: u64, made: Made) -> io::Resul
 fn count_moves(seed: u64, count: u64, set: Set) -> Table {
     let columns = match set[0].0 {
         Class::Rail(_) => &EDITION_CASES[..],
+        Class::Stop(_) => &STOP_CASES[..],
         class if generate::is_of(BAD_EDGES, class) => &EDGE_CASES[3..],
         _ => &CASES[..],
     };
@@ -509,6 +550,7 @@ fn count_moves(seed: u64, count: u64, set: Set) -> Table {
         });
         let mut met = match (class, &read) {
             (Class::Rail(_), Ok(m)) => edition_cases(m),
+            (Class::Stop(_), Ok(m)) => stop_cases(m),
             _ => cases(&read),
         };
         let refusal = read.err();

@@ -1,12 +1,13 @@
-//! Tests of the two editions (request Q-6), run by `rustc --test`.
+//! Tests of the two editions (request Q-6) and of the number of sides worked
+//! (request Q-7), run by `rustc --test`.
 
 use super::checker::*;
-use super::edition::{self, answer, numbers, second, span, Answer, Second};
+use super::edition::{self, answer, numbers, second, span, worked, Answer, Said, Second};
 use super::frame::{read_move, write_move, Refusal};
-use super::generate::{class_of_place, line, Class, RAILS};
+use super::generate::{class_of_place, line, Class, RAILS, STOPS};
 use super::rails::Class as Rail;
 use super::tests::{beside, paper_cases, sample};
-use super::{edition_cases, of_edition, EDITION_CASES};
+use super::{edition_cases, of_edition, stop_cases, EDITION_CASES, STOP_CASES};
 
 fn contact(first: (i128, i128), last: (i128, i128)) -> Second {
     Second::Contact {
@@ -36,8 +37,9 @@ fn paper_answers() -> [Second; 11] {
 fn paper_cases_in_edition_2() {
     for (place, ((m, _), expected)) in paper_cases().iter().zip(paper_answers()).enumerate() {
         assert_eq!(second(m), expected, "P{}", place + 1);
-        assert_eq!(answer(1, Ok(m)), Ok(Answer::OfFirst(verdict(m))));
-        assert_eq!(answer(2, Ok(m)), Ok(Answer::OfSecond(expected)));
+        let said = |edition: u64| answer(edition, Ok(m)).map(|a| a.said);
+        assert_eq!(said(1), Ok(Said::OfFirst(verdict(m))));
+        assert_eq!(said(2), Ok(Said::OfSecond(expected)));
     }
 }
 
@@ -51,7 +53,7 @@ fn other_editions_are_refused_before_all_else() {
         for edition in [0, 3, 257, 258, (1 << 32) + 1, (1 << 32) + 2, u64::MAX] {
             assert_eq!(answer(edition, Err(refusal)), Err(Refusal::Edition));
             assert_eq!(answer(edition, Ok(m)), Err(Refusal::Edition));
-            assert_eq!(numbers(&answer(edition, Ok(m))), [0; 11]);
+            assert_eq!(numbers(&answer(edition, Ok(m))), [0; 12]);
         }
     }
     assert_eq!(Refusal::Edition.number(), 11);
@@ -69,20 +71,70 @@ fn printed(edition: u64) -> Vec<String> {
 #[test]
 fn numbers_of_the_paper_cases() {
     let first = printed(1);
-    assert_eq!(first[1], "2 0 0 3 1 3 1 1 0 1 0");
-    assert_eq!(first[5], "1 1 0 0 0 0 0 0 0 0 0");
-    assert_eq!(first[9], "2 0 0 0 1 10 1 255 1 0 0");
-    assert_eq!(first[10], "2 0 0 0 1 0 1 255 2 0 1");
+    assert_eq!(first[1], "2 0 0 3 1 3 1 1 0 1 0 8");
+    assert_eq!(first[5], "1 1 0 0 0 0 0 0 0 0 0 8");
+    assert_eq!(first[9], "2 0 0 0 1 10 1 255 1 0 0 8");
+    assert_eq!(first[10], "2 0 0 0 1 0 1 255 2 0 1 8");
     let second = printed(2);
-    assert_eq!(second[1], "0 1 0 0 0 0 0 0 0 0 0");
-    assert_eq!(second[4], "3 0 0 3 2 7 2 0 0 0 0");
-    assert_eq!(second[5], "1 1 0 0 0 0 0 0 0 0 0");
-    assert_eq!(second[7], "3 0 0 3 1 7 1 0 0 0 0");
+    assert_eq!(second[1], "0 1 0 0 0 0 0 0 0 0 0 2");
+    assert_eq!(second[4], "3 0 0 3 2 7 2 0 0 0 0 8");
+    assert_eq!(second[5], "1 1 0 0 0 0 0 0 0 0 0 8");
+    assert_eq!(second[7], "3 0 0 3 1 7 1 0 0 0 0 8");
     assert_eq!(
         (&first[11][..], &second[11][..]),
         ("refused: 8", "refused: 8")
     );
     assert!(printed(0).iter().all(|line| line == "refused: 11"));
+}
+
+/// The number of sides worked as the request says it by cases, and the spans
+/// worked as it defines them: the first of all spans, and empty at most the
+/// last.
+#[test]
+fn sides_worked_are_what_the_request_says() {
+    for (class, m) in sample(400) {
+        let every = m.a.len() + m.b.len();
+        let first = match verdict(&m) {
+            Verdict::ClearByOne(k) => k + 1,
+            _ => every,
+        };
+        let second = match second(&m) {
+            Second::ClearByOne(k) => k + 1,
+            _ => every,
+        };
+        let all_first: Vec<_> = directions(&m)
+            .into_iter()
+            .map(|d| super::checker::span(&m, d))
+            .collect();
+        let lists = [
+            (1, first, worked(&m, super::checker::span), all_first),
+            (2, second, worked(&m, span), edition::spans(&m)),
+        ];
+        for (edition, expected, list, all) in lists {
+            let Ok(Answer { worked, .. }) = answer(edition, Ok(&m)) else {
+                panic!("{class:?} {m:?}: it is sound");
+            };
+            assert_eq!(worked, expected, "{class:?} {m:?}");
+            assert!((1..=32).contains(&worked), "{class:?} {m:?}");
+            assert_eq!(list, all[..worked], "{class:?} {m:?}");
+            let (_, before) = list.split_last().unwrap();
+            assert!(before.iter().all(|s| s.is_some()), "{class:?} {m:?}");
+        }
+    }
+}
+
+/// Each case of Q-7 comes up in its set.
+#[test]
+fn the_set_of_stops_meets_each_case() {
+    let mut seen = [0; STOP_CASES.len()];
+    for place in 0..2100 {
+        let m = read_move(&line(5, place, class_of_place(STOPS, place))).expect("none is refused");
+        let met = stop_cases(&m);
+        for (case, count) in STOP_CASES.iter().zip(&mut seen) {
+            *count += usize::from(met.contains(case));
+        }
+    }
+    assert!(seen.iter().all(|count| *count >= 10), "{seen:?}");
 }
 
 /// How much the projections have in common at a time: above zero if more than
