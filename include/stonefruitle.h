@@ -125,13 +125,14 @@
 #define STONEFRUITLE_AT_RECTANGLE_B 9
 
 /* How many numbers stonefruitle_answer_edition hands out, and where they stand. */
-#define STONEFRUITLE_ANSWER_NUMBERS 11
+#define STONEFRUITLE_ANSWER_NUMBERS 12
 #define STONEFRUITLE_AT_CASE 0
 #define STONEFRUITLE_AT_SIDES 1
 #define STONEFRUITLE_AT_FIRST 3
 #define STONEFRUITLE_AT_LAST 5
 #define STONEFRUITLE_AT_BEARING 7
 #define STONEFRUITLE_AT_SHOWING 8
+#define STONEFRUITLE_AT_WORKED 11
 
 /* The cases, and the bearing that stands for none. */
 #define STONEFRUITLE_CLEAR_BY_ONE 0
@@ -188,11 +189,11 @@ uint8_t stonefruitle_answer_lists(const int64_t *a, size_t a_length,
  * The answer, in the edition named, to a move handed in as numbers.
  *
  * Takes the edition, 1 or 2, the coordinates of both outlines, the velocity of
- * each, the limit, a place for 11 numbers and one for an edge. Refusals: 11 for
- * any other edition, then 4 to 9. With any refusal all 11 numbers are zero,
+ * each, the limit, a place for 12 numbers and one for an edge. Refusals: 11 for
+ * any other edition, then 4 to 9. With any refusal all 12 numbers are zero,
  * which is no "clear by side 0"; with 8 and 9 *edge is written.
  *
- * All 11 numbers are written. Those that have nothing to say are 0:
+ * All 12 numbers are written. Those that have nothing to say are 0:
  *
  *     0        the case: 0 clear by one, 1 clear by two, 2 contact in edition 1,
  *              3 contact in edition 2
@@ -201,8 +202,12 @@ uint8_t stonefruitle_answer_lists(const int64_t *a, size_t a_length,
  *     5, 6     n and d of the last
  *     7        the side that bears, 255 for none; edition 1 only
  *     8 to 10  the kind of the showing and its two numbers; edition 1 only
+ *     11       how many sides were worked, 1 to 32: those in order up to and with
+ *              the first whose span is empty, so k + 1 for clear by one at side
+ *              k, otherwise all, the sum of both counts of corners
  *
- * In edition 1 they are what stonefruitle_answer_lists writes as a line. In
+ * In edition 1 the first 11 are what stonefruitle_answer_lists writes as a line,
+ * which does not say how many sides were worked. In
  * edition 2 contact means that at some time from 0 to the limit the outlines
  * share an inner point. First and last are then the greatest lower and the least
  * upper bound of those times, and need not be such times themselves. Clear means

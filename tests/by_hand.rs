@@ -7,7 +7,7 @@
 //!     by_hand --log            the lines of the log
 //!     by_hand --log-answers    their answer lines
 //!     by_hand --second         the move lines worked in the second edition
-//!     by_hand --second-numbers the eleven numbers of their answers
+//!     by_hand --second-numbers the twelve numbers of their answers
 //!
 //! It shares no code with the program or with the independent one. What the
 //! document concludes from the numbers is checked here before it is printed:
@@ -1503,6 +1503,18 @@ impl Second {
         self.spans.iter().position(|span| span.is_none())
     }
 
+    /// How many spans are worked, in order, until one is empty or none is left.
+    fn worked(&self) -> usize {
+        let mut worked = 0;
+        for span in &self.spans {
+            worked += 1;
+            if span.is_none() {
+                break;
+            }
+        }
+        worked
+    }
+
     fn extremes(&self) -> Span {
         let spans: Vec<Span> = self.spans.iter().flatten().copied().collect();
         spans[1..]
@@ -1639,7 +1651,8 @@ impl Second {
 
     /// As the linked library hands them out.
     fn numbers(&self) -> String {
-        let mut all = [0; 11];
+        let mut all = [0; 12];
+        all[11] = self.worked() as i128;
         match self.empty() {
             Some(k) => all[1] = k as i128,
             None => {
@@ -1653,10 +1666,16 @@ impl Second {
 
     fn numbers_block(&self) -> String {
         let meaning = match self.empty() {
-            Some(k) => format!("Case 0, clear by one; side {k}. Nothing else is said."),
+            Some(k) => {
+                check(
+                    self.worked() == k + 1,
+                    "the empty side is the last one worked",
+                );
+                format!("Case 0, clear by one; side {k}; {} sides worked, 0 to {k}. Nothing else is said.", self.worked())
+            }
             None => {
                 let (first, last) = self.extremes();
-                format!("Case 3, contact in edition 2; no sides; first {first}; last {last}; no bearing, no showing.")
+                format!("Case 3, contact in edition 2; no sides; first {first}; last {last}; no bearing, no showing; all {} sides worked.", self.worked())
             }
         };
         format!("    {}\n\n{meaning}\n", self.numbers())

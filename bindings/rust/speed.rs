@@ -20,6 +20,9 @@ mod rails;
 #[path = "../../independent/src/rectangle.rs"]
 mod rectangle;
 #[allow(dead_code)]
+#[path = "../../independent/src/stops.rs"]
+mod stops;
+#[allow(dead_code)]
 #[path = "../../independent/src/trays.rs"]
 mod trays;
 

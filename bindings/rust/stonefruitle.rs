@@ -13,7 +13,7 @@
 //! ```
 //!
 //! What each function answers is proved of the library (`crates/stonefruitle_c/src/lib.rt`). Not proved is this file:
-//! the calls below, and that `Answer::of_line` and `EditionAnswer` take answers apart as they are put together.
+//! the calls below, and that `Answer::of_line` and `Answered` take answers apart as they are put together.
 
 use linked::*;
 use std::fmt;
@@ -177,7 +177,7 @@ pub const NUMBERS: usize = 71;
 pub const RECTANGLES_NUMBERS: usize = 13;
 
 /// How many numbers an answer in an edition is.
-pub const ANSWER_NUMBERS: usize = 11;
+pub const ANSWER_NUMBERS: usize = 12;
 
 /// The kinds of a move line.
 #[derive(Clone, Copy, Debug, PartialEq, Eq)]
@@ -527,7 +527,7 @@ impl EditionAnswer {
         }
     }
 
-    /// Of the numbers that a call in edition 1 or 2 leaves where it refuses nothing.
+    /// Of the first eleven numbers that a call in edition 1 or 2 leaves where it refuses nothing.
     fn of_numbers(edition: u64, numbers: &[u64; ANSWER_NUMBERS]) -> EditionAnswer {
         let byte = |at: usize| u8::try_from(numbers[at]).expect("sides and corners are few");
         let number = |at: usize| u32::try_from(numbers[at]).expect("n and d have four bytes");
@@ -551,6 +551,22 @@ impl EditionAnswer {
             (2, 3) => EditionAnswer::Second(SecondAnswer::Contact { first, last }),
             _ => panic!("an edition has three cases"),
         }
+    }
+}
+
+/// What is answered in a named edition to a move that is not refused, so that a refusal has no number of sides worked.
+#[derive(Clone, Copy, Debug, PartialEq, Eq)]
+pub struct Answered {
+    pub answer: EditionAnswer,
+    /// How many sides' spans were worked out, 1 to 32: those in order up to and with the first empty one. So it is k + 1 for
+    /// clear by one at side k, otherwise the sum of both counts of corners.
+    pub sides_worked: u8,
+}
+
+impl Answered {
+    /// Whether the move may be let go by the edition that was named.
+    pub fn is_clear(&self) -> bool {
+        self.answer.is_clear()
     }
 }
 
@@ -609,12 +625,16 @@ pub fn answer_lists(m: &Move) -> Result<Answer, Refusal> {
     said(&out, written)
 }
 
-/// The answer to a move handed in as numbers, in the edition named, 1 or 2; any other number is refused with `Edition`.
-pub fn answer_edition(edition: u64, m: &Move) -> Result<EditionAnswer, Refusal> {
+/// The answer to a move handed in as numbers, in the edition named, 1 or 2, and how many sides were worked; any other number is
+/// refused with `Edition`.
+pub fn answer_edition(edition: u64, m: &Move) -> Result<Answered, Refusal> {
     let mut numbers = [0; ANSWER_NUMBERS];
     match answer_edition_into(edition, m, &mut numbers) {
         Some(refusal) => Err(refusal),
-        None => Ok(EditionAnswer::of_numbers(edition, &numbers)),
+        None => Ok(Answered {
+            answer: EditionAnswer::of_numbers(edition, &numbers),
+            sides_worked: u8::try_from(numbers[11]).expect("there are at most 32 sides"),
+        }),
     }
 }
 
@@ -717,16 +737,16 @@ pub fn read_move_into(line: &[u8], numbers: &mut [i64; NUMBERS]) -> Option<Refus
     Refusal::returned(refusal, edge)
 }
 
-/// The answer in an edition as 11 numbers, all of which are written: the case, two sides, n and d of first, n and d of last,
-/// the bearing, the kind of the showing and its two numbers. `include/stonefruitle.h` says what each means. Where the move is
-/// refused they are all zero.
+/// The answer in an edition as 12 numbers, all of which are written: the case, two sides, n and d of first, n and d of last,
+/// the bearing, the kind of the showing and its two numbers, the number of sides worked. `include/stonefruitle.h` says what each
+/// means. Where the move is refused they are all zero.
 pub fn answer_edition_into(
     edition: u64,
     m: &Move,
     numbers: &mut [u64; ANSWER_NUMBERS],
 ) -> Option<Refusal> {
     let mut edge = 0;
-    // As below: the lengths are those of the lists, and the library writes the 11 numbers and one edge.
+    // As below: the lengths are those of the lists, and the library writes the 12 numbers and one edge.
     let refusal = unsafe {
         stonefruitle_answer_edition(
             edition,

@@ -26,6 +26,9 @@ mod rectangle;
 #[allow(dead_code)]
 #[path = "../../independent/src/runs.rs"]
 mod runs;
+#[allow(dead_code)]
+#[path = "../../independent/src/stops.rs"]
+mod stops;
 mod tests_editions;
 mod tests_rectangles;
 #[allow(dead_code)]

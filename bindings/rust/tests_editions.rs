@@ -1,9 +1,9 @@
-//! Tests of the two editions (request Q-6) through the linked library: the numbers and the answer of each edition are compared
-//! with the independent program, those of edition 1 also with the answer line; any other edition is refused before all else.
+//! Tests of the two editions (request Q-6) and of the number of sides worked (request Q-7) through the linked library: the
+//! numbers and the answer of each edition are compared with the independent program, which counts sides by its own loop; those of edition 1 also with the answer line; any other edition is refused before all else.
 //! `check` is asked of all lists that are tested, whatever their class.
 
 use super::*;
-use generate::RAILS;
+use generate::{RAILS, STOPS};
 
 /// Each is 1 or 2 if bits of it are cut off, or next to one of them.
 const OTHERS: [u64; 10] = [
@@ -26,14 +26,14 @@ fn time(t: checker::Fraction) -> Time {
     }
 }
 
-/// An answer of the independent program as the wrapper has it; of edition 1 by way of the answer line.
-fn answer_of(answer: edition::Answer) -> EditionAnswer {
-    match answer {
-        edition::Answer::OfFirst(verdict) => {
+/// What the independent program says, as the wrapper has it; of edition 1 by way of the answer line.
+fn said(said: edition::Said) -> EditionAnswer {
+    match said {
+        edition::Said::OfFirst(verdict) => {
             let line = frame::write_answer(&Ok(verdict));
             EditionAnswer::First(Answer::of_line(&line).unwrap().unwrap())
         }
-        edition::Answer::OfSecond(second) => EditionAnswer::Second(match second {
+        edition::Said::OfSecond(second) => EditionAnswer::Second(match second {
             edition::Second::ClearByOne(k) => SecondAnswer::ClearByOne(k as u8),
             edition::Second::ClearByTwo(i, j) => SecondAnswer::ClearByTwo(i as u8, j as u8),
             edition::Second::Contact { first, last } => SecondAnswer::Contact {
@@ -44,7 +44,24 @@ fn answer_of(answer: edition::Answer) -> EditionAnswer {
     }
 }
 
-/// The numbers that an answer line, without its 0a, says.
+/// The same with the number of sides worked.
+fn answered(answer: edition::Answer) -> Answered {
+    Answered {
+        answer: said(answer.said),
+        sides_worked: answer.worked as u8,
+    }
+}
+
+/// The number of sides worked as document 02 says it by cases, from the answer that stands beside it.
+fn worked_by_cases(m: &Lists, answer: EditionAnswer) -> usize {
+    match answer {
+        EditionAnswer::First(Answer::ClearByOne(k))
+        | EditionAnswer::Second(SecondAnswer::ClearByOne(k)) => usize::from(k) + 1,
+        _ => (m.a.len() + m.b.len()) / 2,
+    }
+}
+
+/// The numbers that an answer line, without its 0a, says. It says nothing of the sides worked.
 fn numbers_of_line(line: &[u8]) -> [u64; ANSWER_NUMBERS] {
     let frame = frame::bytes_of(line, frame::MOST_DIGITS).unwrap();
     let number = |at: usize| {
@@ -92,10 +109,10 @@ fn called_in(edition: u64, m: &Lists, before: u8) -> (u8, [u64; ANSWER_NUMBERS],
         )
     };
     assert_eq!((&m.a, &m.b), (&copy.a, &copy.b), "a list is written");
-    assert_eq!(numbers[0], u64::MAX, "a number before the eleven");
-    assert_eq!(numbers[12], u64::MAX, "a number after the eleven");
-    let eleven = std::array::from_fn(|i| numbers[i + 1]);
-    (returned, eleven, edge)
+    assert_eq!(numbers[0], u64::MAX, "a number before the twelve");
+    assert_eq!(numbers[13], u64::MAX, "a number after the twelve");
+    let twelve = std::array::from_fn(|i| numbers[i + 1]);
+    (returned, twelve, edge)
 }
 
 /// Holds the call to what is expected of these lists in both editions, and in one that there is none of.
@@ -116,8 +133,20 @@ pub fn check(what: &str, m: &Lists, expected: &Result<checker::Move, frame::Refu
         let given = answer_edition_into(edition, &m.asked(), &mut numbers);
         assert_eq!(given, refusal, "{what}");
         assert_eq!(numbers, edition::numbers(&expected), "{what}");
-        let answer = expected.map(answer_of).map_err(refused);
+        let answer = expected.map(answered).map_err(refused);
         assert_eq!(answer_edition(edition, &m.asked()), answer, "{what}");
+        match answer {
+            Err(_) => assert_eq!(numbers, [0; ANSWER_NUMBERS], "{what}"),
+            Ok(Answered {
+                answer,
+                sides_worked,
+            }) => {
+                let worked = usize::from(sides_worked);
+                assert_eq!(worked, worked_by_cases(m, answer), "{what}");
+                assert!((1..=32).contains(&worked), "{what}");
+                assert_eq!(numbers[11], u64::from(sides_worked), "{what}");
+            }
+        }
     }
 
     // Edition 1 is the answer line.
@@ -125,9 +154,14 @@ pub fn check(what: &str, m: &Lists, expected: &Result<checker::Move, frame::Refu
     let line = &out[..written.bytes - 1];
     let (returned, numbers, _) = called_in(1, m, BEFORE);
     assert_eq!(usize::from(returned), place_of(written.refusal), "{what}");
-    assert_eq!(numbers, numbers_of_line(line), "{what}");
+    assert_eq!(numbers[..11], numbers_of_line(line)[..11], "{what}");
     let answer = answer_lists(&m.asked()).map(EditionAnswer::First);
-    assert_eq!(answer_edition(1, &m.asked()), answer, "{what}");
+    assert_eq!(only_answer(1, &m.asked()), answer, "{what}");
+}
+
+/// The answer without the number of sides worked.
+fn only_answer(edition: u64, m: &Move) -> Result<EditionAnswer, Refusal> {
+    answer_edition(edition, m).map(|answered| answered.answer)
 }
 
 fn lists_of(case: &Case) -> Lists {
@@ -139,6 +173,22 @@ fn lists_of(case: &Case) -> Lists {
         limit: case.limit,
     }
 }
+
+/// The sides worked of the twelve cases, in edition 1 and in edition 2: side 1 is the second, and two squares have eight.
+const WORKED: [(u64, u64); 12] = [
+    (8, 8),
+    (8, 2),
+    (2, 2),
+    (2, 2),
+    (8, 8),
+    (8, 8),
+    (8, 8),
+    (8, 8),
+    (8, 2),
+    (8, 8),
+    (8, 8),
+    (0, 0),
+];
 
 /// The twelve cases in edition 2: P2 and P9, which only touch, are clear; the others are as in edition 1.
 #[test]
@@ -168,14 +218,17 @@ fn twelve_cases_in_edition_2() {
         (Ok(contact((0, 1), (0, 1))), [3, 0, 0, 0, 1, 0, 1]),
         (Err(Refusal::First(0)), [0; 7]),
     ];
-    for (case, (answer, numbers)) in cases().iter().zip(expected) {
+    for ((case, (answer, numbers)), worked) in cases().iter().zip(expected).zip(WORKED) {
         let answer = answer.map(EditionAnswer::Second);
-        assert_eq!(answer_edition(2, &case.asked()), answer, "{}", case.name);
+        assert_eq!(only_answer(2, &case.asked()), answer, "{}", case.name);
         let (_, given, _) = called_in(2, &lists_of(case), BEFORE);
         assert_eq!(given[..7], numbers, "{}", case.name);
-        assert_eq!(given[7..], [0; 4], "{}", case.name);
+        assert_eq!(given[7..11], [0; 4], "{}", case.name);
+        assert_eq!(given[11], worked.1, "{}", case.name);
         let first = case.answer.map(EditionAnswer::First);
-        assert_eq!(answer_edition(1, &case.asked()), first, "{}", case.name);
+        assert_eq!(only_answer(1, &case.asked()), first, "{}", case.name);
+        let (_, given, _) = called_in(1, &lists_of(case), BEFORE);
+        assert_eq!(given[11], worked.0, "{}", case.name);
         let clear = answer.is_ok_and(|answer| answer.is_clear());
         let names = ["P2", "P3", "P4", "P6", "P9"];
         assert_eq!(clear, names.contains(&case.name), "{}", case.name);
@@ -218,13 +271,14 @@ fn other_editions() {
     assert_eq!(Refusal::Edition.edge(), None);
 }
 
-/// Moves of the classes of Q-6, as lines and as lists in both editions. How often each case of edition 2 came up, and how often
-/// the editions differ.
+/// Moves of the classes of Q-6, as lines and as lists in both editions. How often each case of edition 2 came up, how often
+/// the editions differ, and how often each number of sides was worked.
 #[test]
 fn random_lines_of_rails() {
     assert_eq!(check_lines(RAILS)[0], COUNT);
     let mut counts = [0; 4];
     let mut differ = 0;
+    let mut worked = [0; 33];
     for place in 0..COUNT {
         let class = generate::class_of_place(RAILS, place);
         let m = generate::sound_move(&mut Rng::for_line(SEED, place), class);
@@ -232,6 +286,9 @@ fn random_lines_of_rails() {
         let first = answer_edition(1, &lists.asked()).expect("it is sound");
         let second = answer_edition(2, &lists.asked()).expect("it is sound");
         counts[called_in(2, &lists, BEFORE).1[0] as usize] += 1;
+        for answered in [first, second] {
+            worked[usize::from(answered.sides_worked)] += 1;
+        }
         differ += u64::from(first.is_clear() != second.is_clear());
         // Contact in edition 2 is contact in edition 1.
         assert!(second.is_clear() || !first.is_clear(), "{lists:?}");
@@ -239,6 +296,28 @@ fn random_lines_of_rails() {
     println!("random moves of Q-6 by case of edition 2: {counts:?}; clear there alone: {differ}");
     assert!(counts[0] > 1000 && counts[1] > 1000 && counts[3] > 1000);
     assert!(counts[2] == 0 && differ > 1000);
+    println!("by sides worked, from 1: {:?}", &worked[1..]);
+    assert!(worked[0] == 0 && worked[1] > 1000 && worked[32] > 100);
+    assert!(worked[1..].iter().all(|count| *count > 0));
+}
+
+/// Lists of the classes of Q-7, by the side at which work stops.
+#[test]
+fn random_lists_of_stops() {
+    let mut to_last = 0;
+    for place in 0..14_000 {
+        let class = generate::class_of_place(STOPS, place);
+        let m = generate::sound_move(&mut Rng::for_line(SEED, place), class);
+        let lists = Lists::of(&m);
+        let what = format!("seed {SEED}, place {place}: {lists:?}");
+        let given = answer_edition(1, &lists.asked()).expect("it is sound");
+        let every = m.a.len() + m.b.len();
+        let is_clear_by_one = matches!(given.answer, EditionAnswer::First(Answer::ClearByOne(_)));
+        to_last += u64::from(is_clear_by_one && usize::from(given.sides_worked) == every);
+        check(&what, &lists, &Ok(m), place as usize);
+    }
+    println!("clear by one at the last side: {to_last}");
+    assert!(to_last >= 2000);
 }
 
 /// Lists of the classes of Q-6 with something changed.
@@ -259,7 +338,7 @@ fn editions_side_by_side() {
                     let read = read.as_ref().map_err(|refusal| *refusal);
                     let edition = 1 + (turn / 12 + thread) % 3;
                     let expected = edition::answer(edition, read);
-                    let answer = expected.map(answer_of).map_err(refused);
+                    let answer = expected.map(answered).map_err(refused);
                     assert_eq!(answer_edition(edition, &case.asked()), answer);
                 }
             })

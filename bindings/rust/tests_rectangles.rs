@@ -170,7 +170,7 @@ fn check_ways_round(what: &str, m: &RectangleMove, line: &[u8]) {
         limit: m.limit,
     };
     assert_eq!(
-        answer_edition(1, &corners),
+        answer_edition(1, &corners).map(|answered| answered.answer),
         answer.map(EditionAnswer::First),
         "{what}"
     );

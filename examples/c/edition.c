@@ -1,6 +1,6 @@
 /*
  * Asks the checker about P2, in which two squares only touch, at the limit, in the edition that is the argument. Prints what is
- * answered, and whether the move may be let go: in edition 1 it may not, in edition 2 it may.
+ * answered, how many sides were worked, and whether the move may be let go: in edition 1 it may not, in edition 2 it may.
  */
 #include <inttypes.h>
 #include <stdio.h>
@@ -27,6 +27,10 @@ int main(int count, char **arguments)
         printf("clear by sides %" PRIu64 " and %" PRIu64 "\n", sides[0], sides[1]);
     else
         printf("contact from %" PRIu64 "/%" PRIu64 " to %" PRIu64 "/%" PRIu64 "\n", first[0], first[1], last[0], last[1]);
+
+    /* Only the numbers say it, and of a refusal there is none. */
+    if (refusal == STONEFRUITLE_NONE)
+        printf("%" PRIu64 " sides worked\n", n[STONEFRUITLE_AT_WORKED]);
 
     /* A contact is not refused, and the numbers of a refusal are all zero: both have to be asked. */
     bool clear = refusal == STONEFRUITLE_NONE && n[STONEFRUITLE_AT_CASE] <= STONEFRUITLE_CLEAR_BY_TWO;

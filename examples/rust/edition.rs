@@ -1,5 +1,5 @@
 //! Asks the checker about P2, in which two squares only touch, at the limit, in the edition that is the argument. Prints what is
-//! answered, and whether the move may be let go: in edition 1 it may not, in edition 2 it may.
+//! answered, how many sides were worked, and whether the move may be let go: in edition 1 it may not, in edition 2 it may.
 
 use std::process::ExitCode;
 use stonefruitle::{answer_edition, Answer, EditionAnswer, Move, SecondAnswer};
@@ -11,7 +11,7 @@ fn main() -> ExitCode {
         return ExitCode::from(2);
     };
     let edition = edition.parse().expect("the argument is a whole number");
-    let answer = answer_edition(
+    let answered = answer_edition(
         edition,
         &Move {
             a: &[0, 0, 2, 0, 2, 2, 0, 2],
@@ -23,7 +23,7 @@ fn main() -> ExitCode {
     );
 
     use EditionAnswer::{First, Second};
-    match answer {
+    match answered.map(|answered| answered.answer) {
         Err(refusal) => println!("refused: {}", refusal.number()),
         Ok(First(Answer::ClearByOne(k)) | Second(SecondAnswer::ClearByOne(k))) => {
             println!("clear by side {k}");
@@ -37,8 +37,12 @@ fn main() -> ExitCode {
         ) => println!("contact from {first} to {last}"),
     }
 
+    if let Ok(answered) = answered {
+        println!("{} sides worked", answered.sides_worked);
+    }
+
     // A contact is not refused, so that `Ok` alone is no leave to go.
-    let clear = answer.is_ok_and(|answer| answer.is_clear());
+    let clear = answered.is_ok_and(|answered| answered.is_clear());
     println!("the move is {}", if clear { "let go" } else { "held" });
     if clear {
         ExitCode::SUCCESS
