@@ -24,15 +24,15 @@
  *
  * What a call costs, as tests/costs measures it:
  *
- * Stack    under 6 KB. Measured by painting a stack before the call: 5.5 KB for
- *          stonefruitle_log_step, 5.3 for stonefruitle_read_log, 5.1 for
- *          stonefruitle_read_move, 4.1 for stonefruitle_read_line, 4.0 for
+ * Stack    under 6 KB. Measured by painting a stack before the call: 5.3 KB for
+ *          stonefruitle_read_log, 5.1 for stonefruitle_read_move, 4.3 for
+ *          stonefruitle_log_step, 4.1 for stonefruitle_read_line, 4.0 for
  *          stonefruitle_answer_line, 3.9 for stonefruitle_write_move, 3.5 for
  *          stonefruitle_answer_edition, less for the others; 1.3 at most for
  *          rectangles, as lines or as numbers.
  * Time     bounded, whatever is handed in. A longer line or list is refused
  *          unread. Each outline's 16 corners at most are tried against its 16
- *          edges. At most 32 sides are worked, each with 32 products for the
+ *          edges. At most 32 sides are worked, each with 31 products for the
  *          corners and two for the velocities; for a contact from time zero
  *          they are gone through once more at most. For a contact, 2 times 16
  *          corners at most are tried against 16 edges, and 256 pairs of edges
