@@ -4,7 +4,7 @@ use mathlib.Core.Path.{_≡_, refl}
 use mathlib.Core.List.{List, [], _∷_}
 use lib.IntN.{ℤ, pos, _+ℤ_, _-ℤ_, _*ℤ_, negℤ}
 use Rattle.whole.proofs.Ring.{reps, by-ring}
-use Rattle.plane.specs.Point.{origin, plus, scaled, cross, dot, side}
+use Rattle.plane.specs.Point.{origin, plus, step, scaled, cross, dot, side}
 use Rattle.plane.specs.declared.Corner.{Corner}
 
 -- two points with the same coordinates are one
@@ -20,6 +20,10 @@ coords (c ∷ l) = c .x ∷ c .y ∷ coords l
 pub cross-self : (a : Corner) → cross a a ≡ pos 0
 unfolding cross
 cross-self a = by-ring (coords (a ∷ [])) (search reps depth 12) (search reps depth 12) tt
+
+pub cross-nil : (u a : Corner) → cross u (step a a) ≡ pos 0
+unfolding cross
+cross-nil u a = by-ring (coords (u ∷ a ∷ [])) (search reps depth 12) (search reps depth 12) tt
 
 pub cross-flip : (a b : Corner) → cross b a ≡ negℤ (cross a b)
 unfolding cross
@@ -45,6 +49,10 @@ dot-scaled k a b = by-ring (k ∷ coords (a ∷ b ∷ [])) (search reps depth 12
 pub scaled-dot : (k : ℤ) (a b : Corner) → dot (scaled k a) b ≡ k *ℤ dot a b
 unfolding dot
 scaled-dot k a b = by-ring (k ∷ coords (a ∷ b ∷ [])) (search reps depth 12) (search reps depth 12) tt
+
+pub dot-step : (D p q : Corner) → dot D (step p q) ≡ dot D q -ℤ dot D p
+unfolding dot
+dot-step D p q = by-ring (coords (D ∷ p ∷ q ∷ [])) (search reps depth 12) (search reps depth 12) tt
 
 pub dot-side : (e p : Corner) → dot (side e) p ≡ negℤ (cross e p)
 unfolding cross dot

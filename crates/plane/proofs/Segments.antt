@@ -19,7 +19,7 @@ use Rattle.plane.specs.Interval.{shares}
 use Rattle.plane.specs.Inside.{meetIn, meet}
 use Rattle.plane.specs.CommonPoint.{CommonPoint}
 use Rattle.plane.specs.declared.Corner.{Corner}
-use Rattle.plane.proofs.Products.{coords, cross-self, lagrange-cross, lagrange-dot}
+use Rattle.plane.proofs.Products.{coords, cross-self, cross-nil, lagrange-cross, lagrange-dot}
 use Rattle.plane.proofs.Intervals.{shares-clash}
 use Rattle.plane.specs.Apart.{Before, Apart}
 use Rattle.plane.proofs.Common.{common-shares}
@@ -35,10 +35,6 @@ record Ends (A : List Corner) (a a′ : Corner) : Type 0 where
 
 ends-all : {A : List Corner} {a a′ : Corner} → Ends A a a′ → (Q : Corner → Type 0) → Q a → Q a′ → (c : Corner) → Mem c A → Q c
 ends-all e Q h k c m = ⊎-elim (λ q. rw q h) (λ q. rw q k) (e .both c m)
-
-cross-nil : (u a : Corner) → cross u (step a a) ≡ pos 0
-unfolding cross
-cross-nil u a = by-ring (coords (u ∷ a ∷ [])) (search reps depth 12) (search reps depth 12) tt
 
 cross-return : (a a′ : Corner) → cross (step a′ a) (step a a′) ≡ pos 0
 unfolding cross

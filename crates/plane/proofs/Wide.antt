@@ -20,7 +20,7 @@ use Rattle.plane.specs.Point.{origin, step, cross, dot, side}
 use Rattle.plane.specs.Edges.{corner, next, edge}
 use Rattle.plane.specs.Interval.{low, high}
 use Rattle.plane.specs.declared.Corner.{Corner}
-use Rattle.plane.proofs.Products.{coords, side-dot, lagrange-cross}
+use Rattle.plane.proofs.Products.{coords, dot-step, side-dot, lagrange-cross}
 use Rattle.plane.proofs.Intervals.{low-bound, high-bound}
 use Rattle.plane.proofs.Extreme.{dot-pos}
 
@@ -105,10 +105,6 @@ square-cross : (D e u : Corner) → pos 0 <ℤ dot D D → dot D e ≡ pos 0 →
 square-cross D e u h he hu hc =
     let ρ = dot D D ∷ cross e u ∷ cross D u ∷ cross D e ∷ [] in
     omega (arith, lin< ρ (search reps depth 12) tt (mul-pos (dot D D) (cross e u) h hc), lin≡ ρ (search reps depth 12) tt (rw (he, hu) at (lagrange-cross D e u)))
-
-dot-step : (D p q : Corner) → dot D (step p q) ≡ dot D q -ℤ dot D p
-unfolding dot
-dot-step D p q = by-ring (coords (D ∷ p ∷ q ∷ [])) (search reps depth 12) (search reps depth 12) tt
 
 pub wide-across : (A : List Corner) → Wide A → (D : Corner) → pos 0 <ℤ dot D D → low D A <ℤ high D A
 wide-across A w D h = ⊎-elim (λ l. absurd (no l)) (λ l. l) (≤-or-< (high D A) (low D A))
