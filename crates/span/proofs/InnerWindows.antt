@@ -42,8 +42,6 @@ pub record Inner (lo hi w : ℤ) (T : ℕ) (b e : Time) : Type 0 where
   pub at-end : (n d : ℕ) → Amid lo hi w n d → n * e .d ≡ e .n * d → n ≡ T * d
   pub at-zero : T ≡ 0 → Amid lo hi w 0 1
   pub ordered : 0 < T → before b e ≡ true
-  pub ends-late : 0 < T → before (time 0 1) e ≡ true
-  pub begins-early : 0 < T → before b (time T 1) ≡ true
 
 -- it goes by what is amid
 inner-by : {lo hi w lo′ hi′ w′ : ℤ} {T : ℕ} {b e : Time} → ((n d : ℕ) → Amid lo hi w n d ↔ Amid lo′ hi′ w′ n d) → Inner lo′ hi′ w′ T b e → Inner lo hi w T b e
@@ -55,8 +53,6 @@ inner-by f i =
       at-end = λ n d a. i .at-end n d (f n d .0 a);
       at-zero = λ z. f 0 1 .1 (i .at-zero z);
       ordered = i .ordered;
-      ends-late = i .ends-late;
-      begins-early = i .begins-early;
     }
 
 -- ---- a time of the value p/q
@@ -125,8 +121,6 @@ module _ (q T : ℕ) (hq : 1 ≤ q) where
         at-end = λ n d a x. end-limit h n d (omega (ints, a .1)) (value-same p q m e hq ve n d x);
         at-zero = λ z. zero-amid lo (pos h) (pos q) (omega (ints, starts, ap (λ t. t * q) z)) ends;
         ordered = λ t. value-before (P lo) q k b hq vb (e .n) (e .d) .1 (omega (arith, ve .value, mul-lt-mul-of-pos-right {k = e .d} (low t) (ve .proper)));
-        ends-late = λ t. value-after p q m e hq ve 0 1 .1 (omega (arith, low t));
-        begins-early = λ t. value-before (P lo) q k b hq vb T 1 .1 (omega (arith, low t));
       }
 
 -- ---- for any w
@@ -160,8 +154,6 @@ windowed-inner {lo} {hi} {T = T} l (always f g) =
       at-end = λ n d a x. omega arith;
       at-zero = λ z. zero-amid lo hi (pos 0) low high;
       ordered = after;
-      ends-late = after;
-      begins-early = after;
     }
 
 pub window-inner : (lo hi w : ℤ) (T : ℕ) (b e : Time) → lo <ℤ hi → windowIn Second lo hi w T ≡ Between b e → Inner lo hi w T b e

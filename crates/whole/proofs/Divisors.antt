@@ -1,8 +1,8 @@
 -- The laws of the greatest common divisor. Any bound on the steps above the second number gives the same, so `gcd` has the two equations of Euclid's method; the rest follows by induction along its steps.
-use mathlib.Core.Path.{_≡_, refl, _∙_, ap}
+use mathlib.Core.Path.{_≡_, refl}
 use mathlib.Core.Logic.{∥∥₁-elim}
 use Prim.Native.Nat.{ℕ, zero, suc, _*_, _%_, _≤_, _<_, _∣_}
-use native.Mathlib.Nat.{zero-mul, mul-one, mul-comm, mod-lt, ∣-prop, dvd-refl, dvd-zero, dvd-mul-left, dvd-mul-right, dvd-mod-iff, dvd-antisymm, pos-of-dvd-of-pos, mul-dvd-mul-left, dvd-of-mul-dvd-mul-left}
+use native.Mathlib.Nat.{zero-mul, mod-lt, ∣-prop, dvd-refl, dvd-zero, dvd-mul-right, dvd-mod-iff, dvd-antisymm, pos-of-dvd-of-pos, mul-dvd-mul-left, dvd-of-mul-dvd-mul-left}
 use native.Mathlib.Omega.{arith}
 use Rattle.whole.specs.Time.{gcdWithin, gcd}
 
@@ -81,8 +81,3 @@ pub gcd-scale : (k m n : ℕ) → gcd (k * m) (k * n) ≡ k * gcd m n
 gcd-scale zero m n = simp (zero-mul, gcd-zero)
 gcd-scale (suc k) m n =
     dvd-antisymm (scale-divides (suc k) m n (omega arith)) (gcd-greatest (suc k * gcd m n) (suc k * m) (suc k * n) (mul-dvd-mul-left (gcd m n) (suc k) (gcd-divides-left m n)) (mul-dvd-mul-left (gcd m n) (suc k) (gcd-divides-right m n)))
-
-pub coprime-divides : (a b c : ℕ) → gcd a b ≡ 1 → a ∣ b * c → a ∣ c
-coprime-divides a b c e h =
-    let whole : gcd (c * a) (c * b) ≡ c = gcd-scale c a b ∙ ap (λ t. c * t) e ∙ mul-one c in
-    rw whole at (gcd-greatest a (c * a) (c * b) (dvd-mul-left a c) (rw (mul-comm c b) h))

@@ -1,14 +1,14 @@
--- Times as fractions: `before` is a strict order on the values of proper times, so it ranks them; `reduced` keeps the value, and each value has one time in lowest terms.
+-- Times as fractions: `before` is a strict order on the values of proper times, so it ranks them; `reduced` keeps the value and gives it in lowest terms.
 use mathlib.Core.Path.{_≡_, refl, sym, _∙_, ap, ap₂}
 use mathlib.Core.Bool.{Bool, true, false}
-use Prim.Native.Nat.{ℕ, _*_, _/_, _^_, _≤_, _<_, _∣_}
-use native.Mathlib.Nat.{mul-le-mul, le-pred-of-lt, mul-le-mul-right, le-of-mul-le-mul-right, eq-of-mul-eq-mul-left, eq-of-mul-eq-mul-right, mul-one, mul-div-cancel', div-le-self, dvd-mul-left, dvd-antisymm, pos-of-dvd-of-pos}
+use Prim.Native.Nat.{ℕ, _*_, _/_, _^_, _≤_, _<_}
+use native.Mathlib.Nat.{mul-le-mul, le-pred-of-lt, mul-le-mul-right, le-of-mul-le-mul-right, eq-of-mul-eq-mul-left, mul-one, mul-div-cancel', div-le-self, dvd-mul-left, pos-of-dvd-of-pos}
 use native.Mathlib.Omega.{arith}
-use borrow.Author.Tests.{ltb-true, ltb-false, le-ltb, eqb-true, eq-eqb}
+use borrow.Author.Tests.{ltb-true, ltb-false, le-ltb, eq-eqb}
 use Rattle.whole.specs.declared.Time.{Time}
 use Rattle.whole.specs.Time.{time, Proper, before, same, gcd, reduced, lowestTerms, Reduced, Short}
 use Rattle.whole.proofs.Members.{Ranks, ranks-flip}
-use Rattle.whole.proofs.Divisors.{gcd-divides-left, gcd-divides-right, gcd-pos, gcd-comm, gcd-scale, coprime-divides}
+use Rattle.whole.proofs.Divisors.{gcd-divides-left, gcd-divides-right, gcd-pos, gcd-scale}
 
 -- ---- the order
 -- a/b ≤ c/d and c/d ≤ e/f give a/b ≤ e/f, where d is at least 1
@@ -27,10 +27,6 @@ before-asym s t h = le-ltb (t .n * s .d) (s .n * t .d) (omega (arith, ltb-true))
 pub before-step : (s t u : Time) → Proper t → before t s ≡ false → before u t ≡ false → before u s ≡ false
 unfolding before
 before-step s t u p h k = le-ltb (u .n * s .d) (s .n * u .d) (cross-trans (s .n) (s .d) (t .n) (t .d) (u .n) (u .d) p (ltb-false _ _ h) (ltb-false _ _ k))
-
-pub before-total : (s t : Time) → before s t ≡ false → before t s ≡ false → same s t ≡ true
-unfolding before same
-before-total s t h k = eq-eqb (s .n * t .d) (t .n * s .d) (omega (arith, ltb-false))
 
 -- ---- the two ways to rank times
 pub ranks-before : Ranks Proper before
@@ -96,18 +92,6 @@ module _ (t : Time) (p : Proper t) where
 
   pub before-lowestTerms : (u : Time) → before u (lowestTerms t) ≡ before u t
   before-lowestTerms u = same-test _ _ (λ e. before-step t (lowestTerms t) u lowestTerms-proper lowestTerms-ge e) (λ e. before-step (lowestTerms t) t u p lowestTerms-le e)
-
--- s's d divides t's, where s is in lowest terms and has t's value
-same-divides : (s t : Time) → Reduced s → s .n * t .d ≡ t .n * s .d → s .d ∣ t .d
-same-divides s t r e = coprime-divides (s .d) (s .n) (t .d) (gcd-comm (s .d) (s .n) ∙ r .coprime) (rw e (dvd-mul-left (s .d) (t .n)))
-
-pub same-reduced : (s t : Time) → Reduced s → Reduced t → same s t ≡ true → s ≡ t
-unfolding same
-same-reduced s t r q h =
-    let e = eqb-true (s .n * t .d) (t .n * s .d) h in
-    let d-same : s .d ≡ t .d = dvd-antisymm (same-divides s t r e) (same-divides t s q (sym e)) in
-    let n-same : s .n ≡ t .n = eq-of-mul-eq-mul-right (t .d) (q .proper) (s .n) (t .n) (e ∙ ap (λ k. t .n * k) d-same) in
-    ap₂ time n-same d-same
 
 -- the cross products of short times fit eight bytes
 pub short-cross : (s t : Time) → Short s → Short t → s .n * t .d < 2 ^ 64
