@@ -1,7 +1,7 @@
 -- The ends of an interval bound the projections of the corners, and corners reach them.
 -- So two intervals share no value exactly where all corners of one list come before all of the other.
-use mathlib.Core.Path.{_≡_, refl, sym, _∙_}
-use mathlib.Core.Bool.{Bool, true, false, cond, and-eq-true-iff, false≢true}
+use mathlib.Core.Path.{_≡_, sym, _∙_}
+use mathlib.Core.Bool.{true, false, and-eq-true-iff, false≢true}
 use mathlib.Core.Logic.{inl, inr, ⊎-elim}
 use mathlib.Core.List.{List, [], _∷_, map}
 use Prim.Native.Nat.{_≤_}
@@ -11,6 +11,7 @@ use lib.ListN.{length}
 use lib.Signed.{_≤ℤ_, _<ℤ_, ltZ, leZ, clashℤ}
 use Rattle.whole.specs.Member.{Mem}
 use Rattle.whole.proofs.Linear.{ints}
+use Rattle.whole.proofs.Ends.{EndsCross, overlap-yes, overlap-true}
 use Rattle.whole.proofs.Order.{≤-or-<}
 use Rattle.whole.proofs.Members.{mem-map, map-mem, best-member, best-ltZ-bound, best-gtZ-bound}
 use Rattle.plane.specs.Point.{dot}
@@ -67,27 +68,10 @@ shares-clash D A B h k e s =
     ⊎-elim (λ f. clashℤ (before-ends D A B h k f) (w .1)) (λ f. clashℤ (before-ends D B A k h f) (w .0)) s
 
 -- ---- more than one shared value
-module _ (D : Corner) (A B : List Corner) where
-  -- both intervals begin below where each of them ends
-  abbrev pub EndsCross : Type 0
-  EndsCross = (low D A <ℤ high D A) × (low D A <ℤ high D B) × (low D B <ℤ high D A) × (low D B <ℤ high D B)
+pub overlaps-yes : (D : Corner) (A B : List Corner) → overlaps D A B ≡ true → EndsCross (low D A) (high D A) (low D B) (high D B)
+unfolding overlaps
+overlaps-yes D A B = overlap-yes (low D A) (high D A) (low D B) (high D B)
 
-  pub overlaps-yes : overlaps D A B ≡ true → EndsCross
-  unfolding overlaps
-  overlaps-yes = go (ltZ (low D A) (low D B)) (ltZ (high D B) (high D A)) refl refl
-    where
-      go : (s t : Bool) → ltZ (low D A) (low D B) ≡ s → ltZ (high D B) (high D A) ≡ t → ltZ (cond s (low D B) (low D A)) (cond t (high D B) (high D A)) ≡ true → EndsCross
-      go true true e f h = (omega ints, omega ints, omega ints, omega ints)
-      go true false e f h = (omega ints, omega ints, omega ints, omega ints)
-      go false true e f h = (omega ints, omega ints, omega ints, omega ints)
-      go false false e f h = (omega ints, omega ints, omega ints, omega ints)
-
-  pub overlaps-true : EndsCross → overlaps D A B ≡ true
-  unfolding overlaps
-  overlaps-true w = go (ltZ (low D A) (low D B)) (ltZ (high D B) (high D A))
-    where
-      go : (s t : Bool) → ltZ (cond s (low D B) (low D A)) (cond t (high D B) (high D A)) ≡ true
-      go true true = omega (ints, w .3)
-      go true false = omega (ints, w .2)
-      go false true = omega (ints, w .1)
-      go false false = omega (ints, w .0)
+pub overlaps-true : (D : Corner) (A B : List Corner) → EndsCross (low D A) (high D A) (low D B) (high D B) → overlaps D A B ≡ true
+unfolding overlaps
+overlaps-true D A B = overlap-true (low D A) (high D A) (low D B) (high D B)

@@ -10,9 +10,10 @@ use native.Mathlib.Omega.{arith}
 use lib.IntN.{ℤ, pos, _+ℤ_, _-ℤ_, _*ℤ_, +ℤ-idr}
 use lib.ListN.{length, length-map}
 use lib.Signed.{_≤ℤ_, _<ℤ_, ltZ, leZ}
-use Rattle.whole.specs.Best.{betterOf, bestFrom, best}
+use Rattle.whole.specs.Best.{best}
 use Rattle.whole.proofs.Ring.{reps, by-ring}
 use Rattle.whole.proofs.Linear.{ints}
+use Rattle.whole.proofs.Ends.{overlap-kept}
 use Rattle.whole.proofs.Members.{best-map}
 use Rattle.whole.proofs.Order.{mul-nonneg, mul-pos, ltZ-line, leZ-line}
 use Rattle.plane.specs.Point.{step, scaled, cross, dot, side}
@@ -118,11 +119,6 @@ module _ (D : Corner) (k : ℤ) (hk : pos 0 <ℤ k) where
   shares-scaled A B = ap₂ _&&_ (ap₂ leZ (low-scaled A) (high-scaled B) ∙ leZ-line k (pos 0) hk (low D A) (high D B)) (ap₂ leZ (low-scaled B) (high-scaled A) ∙ leZ-line k (pos 0) hk (low D B) (high D A))
 
   pub overlaps-scaled : (A B : List Corner) → overlaps (scaled k D) A B ≡ overlaps D A B
-  unfolding overlaps best bestFrom
+  unfolding overlaps
   overlaps-scaled A B =
-      ap₂ ltZ (ap₂ (betterOf (λ x y. ltZ y x)) (low-scaled A) (low-scaled B) ∙ better-line (λ x y. ltZ y x) (λ x y. ltZ-line k (pos 0) hk y x) (low D A) (low D B))
-      (ap₂ (betterOf ltZ) (high-scaled A) (high-scaled B) ∙ better-line ltZ (ltZ-line k (pos 0) hk) (high D A) (high D B))
-      ∙ ltZ-line k (pos 0) hk _ _
-    where
-      better-line : (better : ℤ → ℤ → Bool) → ((x y : ℤ) → better (k *ℤ x +ℤ pos 0) (k *ℤ y +ℤ pos 0) ≡ better x y) → (x y : ℤ) → betterOf better (k *ℤ x +ℤ pos 0) (k *ℤ y +ℤ pos 0) ≡ k *ℤ betterOf better x y +ℤ pos 0
-      better-line better keeps x y = best-map better better (λ z. k *ℤ z +ℤ pos 0) keeps (λ z. z) (λ z. k *ℤ z +ℤ pos 0) (λ z. refl) (pos 0) (pos 0) x (y ∷ [])
+      rw (low-scaled A, high-scaled A, low-scaled B, high-scaled B) (overlap-kept (low D A) (high D A) (low D B) (high D B) (λ z. k *ℤ z +ℤ pos 0) (ltZ-line k (pos 0) hk))

@@ -1,14 +1,16 @@
 -- What the test of a touch shows: where the greater of the two lows is the lesser of the two highs, it is the one value that the intervals share;
 -- where intervals share a value and it is not, both are shared, and they differ.
-use mathlib.Core.Path.{_≡_, refl, sym, _∙_}
-use mathlib.Core.Bool.{Bool, true, false, not, _&&_, and-eq-true-iff, false≢true}
+use mathlib.Core.Path.{_≡_, sym, _∙_}
+use mathlib.Core.Bool.{true, false}
 use mathlib.Core.Logic.{_⊎_, ⊎-elim}
 use mathlib.Core.List.{List}
 use Prim.Native.Nat.{_≤_}
 use lib.IntN.{ℤ}
 use lib.ListN.{length}
-use lib.Signed.{_≤ℤ_, _<ℤ_, ltZ}
-use Rattle.whole.proofs.Betters.{greater, lesser, greater-is, lesser-is}
+use lib.Signed.{_≤ℤ_}
+use Rattle.whole.specs.Ends.{greater, lesser}
+use Rattle.whole.proofs.Betters.{greater-is, lesser-is}
+use Rattle.whole.proofs.Ends.{touch-yes, touch-no}
 use Rattle.whole.proofs.Linear.{ints}
 use Rattle.plane.specs.Interval.{low, high, shares, touches}
 use Rattle.plane.specs.declared.Corner.{Corner}
@@ -44,33 +46,16 @@ module _ (D : Corner) (A B : List Corner) (some-a : 1 ≤ length A) (some-b : 1 
   pub touches-one : touches D A B ≡ true → OneShared D A B
   unfolding touches
   touches-one e =
-      let w = and-eq-true-iff (not (ltZ from to)) (not (ltZ to from)) .0 e in
-      let h = not-less from to (w .0) in
-      let k = not-less to from (w .1) in
-      record { value = from; shared = shared-in from (omega ints) (omega (ints, k)); only = λ u s. omega (ints, h, in-shared u s .0, in-shared u s .1) }
-    where
-      not-less : (x y : ℤ) → not (ltZ x y) ≡ true → y ≤ℤ x
-      not-less x y n = go (ltZ x y) refl n
-        where
-          go : (t : Bool) → ltZ x y ≡ t → not t ≡ true → y ≤ℤ x
-          go true q n = absurd (false≢true n)
-          go false q n = omega ints
+      let w = touch-yes (low D A) (high D A) (low D B) (high D B) e in
+      record { value = from; shared = shared-in from (omega ints) (w .0); only = λ u s. omega (ints, w .1, in-shared u s .0, in-shared u s .1) }
 
   pub touches-more : shares D A B ≡ true → touches D A B ≡ false → MoreShared D A B
   unfolding touches
   touches-more s e =
       let w = shares-yes D A B s in
       let ordered : from ≤ℤ to = ⊎-elim (λ f. ⊎-elim (λ t. omega (ints, f, t, low-high A some-a)) (λ t. omega (ints, f, t, w .0)) (lesser-is (high D A) (high D B) .2)) (λ f. ⊎-elim (λ t. omega (ints, f, t, w .1)) (λ t. omega (ints, f, t, low-high B some-b)) (lesser-is (high D A) (high D B) .2)) (greater-is (low D A) (low D B) .2) in
-      let less : from <ℤ to = go (ltZ from to) (ltZ to from) refl refl ordered e in
+      let less = touch-no (low D A) (high D A) (low D B) (high D B) e ordered in
       record { lesser = from; greater = to; differ = less; lesser-shared = shared-in from (omega ints) (omega (ints, less)); greater-shared = shared-in to (omega (ints, less)) (omega ints) }
-    where
-      go : (t u : Bool) → ltZ from to ≡ t → ltZ to from ≡ u → from ≤ℤ to → (not t && not u) ≡ false → from <ℤ to
-      go true u p q o n = omega ints
-      go false true p q o n = absurd (clash p q o)
-        where
-          clash : ltZ from to ≡ false → ltZ to from ≡ true → from ≤ℤ to → ⊥
-          clash p q o = omega ints
-      go false false p q o n = absurd (false≢true (sym n))
 
   pub one-or-more : OneShared D A B → MoreShared D A B → ⊥
   one-or-more o m = let e = o .only (m .lesser) (m .lesser-shared) ∙ sym (o .only (m .greater) (m .greater-shared)) in omega (ints, e, m .differ)

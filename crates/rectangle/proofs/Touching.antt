@@ -4,11 +4,10 @@ use mathlib.Core.Bool.{Bool, true, false, cond}
 use mathlib.Core.Logic.{⊎-elim}
 use Prim.Native.Nat.{ℕ, zero, suc, _%_, _<_}
 use lib.Dec.{ltb}
-use lib.IntN.{ℤ, negℤ, _*ℤ_}
-use lib.Signed.{ltZ}
-use Rattle.whole.specs.Best.{betterOf}
+use lib.IntN.{negℤ, _*ℤ_}
 use Rattle.whole.specs.Lowest.{lowest}
 use Rattle.whole.proofs.Indices.{lowest-cong}
+use Rattle.whole.proofs.Ends.{touch-kept, touch-turned}
 use Rattle.span.proofs.Editions.{less-scaled, less-turned}
 use Rattle.plane.specs.Interval.{touches}
 use Rattle.plane.specs.declared.Corner.{Corner}
@@ -25,28 +24,13 @@ use Rattle.rectangle.specs.declared.Reach.{Reach}
 use Rattle.rectangle.proofs.Boxes.{Seen, turned, reach-a, reach-b, side-seen}
 
 -- ---- a side that sees a and b
--- where h keeps the ranks, the better of two images is the image of the better
-better-image : (better better′ : ℤ → ℤ → Bool) (h : ℤ → ℤ) → ((x y : ℤ) → better′ (h x) (h y) ≡ better x y) → (x y : ℤ) → betterOf better′ (h x) (h y) ≡ h (betterOf better x y)
-better-image better better′ h same x y = rw (same y x) (go (better y x))
-  where
-    go : (t : Bool) → cond t (h y) (h x) ≡ h (cond t y x)
-    go true = refl
-    go false = refl
-
-abbrev gtZ : ℤ → ℤ → Bool
-gtZ x y = ltZ y x
-
 seen-touches : (m : Move) (D : Corner) (a b : Reach) → Seen m D a b → touches D (m .a) (m .b) ≡ touching a b
-unfolding touches touching
+unfolding touches
 seen-touches m D a b s =
-    let less = less-scaled (s .factor) (s .above) in
-    let h : ℤ → ℤ = λ z. s .factor *ℤ z in
-    rw (s .low-a, s .high-a, s .low-b, s .high-b, better-image gtZ gtZ h (λ x y. less y x) (a .low) (b .low), better-image ltZ ltZ h less (a .high) (b .high), less _ _, less _ _)
+    rw (s .low-a, s .high-a, s .low-b, s .high-b) (touch-kept (a .low) (a .high) (b .low) (b .high) (λ z. s .factor *ℤ z) (less-scaled (s .factor) (s .above)))
 
 touching-turned : (a b : Reach) → touching (turned a) (turned b) ≡ touching a b
-unfolding touching
-touching-turned a b =
-    rw (better-image ltZ gtZ negℤ (λ x y. less-turned y x) (a .high) (b .high), better-image gtZ ltZ negℤ less-turned (a .low) (b .low), less-turned _ _, less-turned _ _)
+touching-turned a b = touch-turned (a .low) (a .high) (b .low) (b .high) negℤ less-turned
 
 -- ---- the sides
 -- what is said of y and of x, by the number of the axis

@@ -5,13 +5,13 @@
 --   reached n d a      where a rectangle is on the axis at the time n/d, times d
 --   showingOf ..       what shows a common point, from where both rectangles are on both axes
 --   worked m           the verdict
-use mathlib.Core.Bool.{Bool, not, cond, _&&_}
+use mathlib.Core.Bool.{Bool, cond, _&&_}
 use mathlib.Core.List.{List, [], _∷_}
 use Prim.Native.Nat.{ℕ}
 use lib.Dec.{ltb, eqb}
 use lib.IntN.{ℤ, pos, natAbs, _+ℤ_, _-ℤ_, _*ℤ_}
 use lib.Signed.{ltZ, leZ}
-use Rattle.whole.specs.Best.{betterOf}
+use Rattle.whole.specs.Ends.{touch}
 use Rattle.whole.specs.Within.{Within}
 use Rattle.whole.specs.declared.Time.{Time}
 use Rattle.span.specs.Window.{window}
@@ -44,11 +44,8 @@ reach c r v = record { low = c (r .low); high = c (r .high); speed = c v }
 unfoldable pub along : Reach → Reach → ℕ → Span
 along a b T = window (a .low -ℤ b .high) (a .high -ℤ b .low) (b .speed -ℤ a .speed) T
 
-unfoldable pub touching : Reach → Reach → Bool
-touching a b =
-    let greaterLow = betterOf (λ x y. ltZ y x) (a .low) (b .low) in
-    let lesserHigh = betterOf ltZ (a .high) (b .high) in
-    not (ltZ greaterLow lesserHigh) && not (ltZ lesserHigh greaterLow)
+abbrev pub touching : Reach → Reach → Bool
+touching a b = touch (a .low) (a .high) (b .low) (b .high)
 
 abbrev pub reached : ℕ → ℕ → Reach → Interval
 reached n d a = record { low = pos d *ℤ a .low +ℤ pos n *ℤ a .speed; high = pos d *ℤ a .high +ℤ pos n *ℤ a .speed }

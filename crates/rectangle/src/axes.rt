@@ -55,12 +55,7 @@ fn along(a: Reach, b: Reach, limit: i64) -> Span
 fn is_touching(a: Reach, b: Reach) -> bool
     ensures { λ r. ⌜ r ≡ touching a b ⌝ }
 {
-    let low = whole::greater(a.low, b.low);
-    let high = whole::lesser(a.high, b.high);
-    if low < high {
-        return false;
-    }
-    !(high < low)
+    whole::touch(a.low, a.high, b.low, b.high)
 }
 
 // What the span of y, side 0, and the span of x, side 1, have in common.

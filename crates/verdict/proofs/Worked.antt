@@ -3,6 +3,7 @@ use mathlib.Core.Path.{_≡_, refl}
 use mathlib.Core.List.{map}
 use Rattle.whole.specs.Lowest.{lowest, every}
 use Rattle.whole.specs.Best.{best}
+use Rattle.whole.specs.Ends.{touch}
 use Rattle.whole.specs.Time.{before, same, reduced}
 use Rattle.whole.specs.Table.{table}
 use Rattle.span.specs.Window.{windowAheadIn, windowStillIn, windowIn}
@@ -25,5 +26,5 @@ use Rattle.verdict.specs.declared.Answer.{Answer}
 use Rattle.verdict.specs.declared.editions.EditionAnswer.{EditionAnswer}
 
 pub worked : map {B = Answer × EditionAnswer × EditionAnswer} (λ (c : Case). (answer (c .asked), answerOf First (c .asked), answerOf Second (c .asked))) cases ≡ map (λ (c : Case). (c .answered, named (c .sides) (c .answered), c .second)) cases
-unfolding lowest every best before same reduced cross dot low high shares touches inside meet left badEdge isSound firstThatApplies counted placed sideOf windowAheadIn windowStillIn windowIn spanIn table spansIn cornerInside edgesMeet meetingPair showingOf showing outcomeIn upToEmpty verdict refusal carriedBy carried answerUnless answer verdictInside verdictUnless
+unfolding lowest every best before same reduced cross dot low high shares touch touches inside meet left badEdge isSound firstThatApplies counted placed sideOf windowAheadIn windowStillIn windowIn spanIn table spansIn cornerInside edgesMeet meetingPair showingOf showing outcomeIn upToEmpty verdict refusal carriedBy carried answerUnless answer verdictInside verdictUnless
 worked = refl

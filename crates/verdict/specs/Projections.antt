@@ -2,12 +2,11 @@
 --   projections m k            side k of the move m
 --   Small p                    how far the numbers of a side reach where corners are in range
 --   windowOf e p va vb limit   the times from 0 to the limit at which the intervals of p share a value, in edition 2 more than one, A moving with va and B with vb
---   touch p                    the intervals of p share exactly one value
-use mathlib.Core.Bool.{Bool, not, _&&_}
+--   touchOf p                  the intervals of p share exactly one value
+use mathlib.Core.Bool.{Bool}
 use Prim.Native.Nat.{ℕ}
 use lib.IntN.{ℤ, natAbs, _-ℤ_}
-use lib.Signed.{ltZ}
-use Rattle.whole.specs.Best.{betterOf}
+use Rattle.whole.specs.Ends.{touch}
 use Rattle.whole.specs.Within.{Within}
 use Rattle.span.specs.Window.{windowIn}
 use Rattle.span.specs.declared.Edition.{Edition}
@@ -33,8 +32,5 @@ pub record Small (p : Projections) : Type 0 where
 abbrev pub windowOf : Edition → Projections → Corner → Corner → ℤ → Span
 windowOf e p va vb limit = windowIn e (p .a .low -ℤ p .b .high) (p .a .high -ℤ p .b .low) (dot (p .d) vb -ℤ dot (p .d) va) (natAbs limit)
 
-abbrev pub touch : Projections → Bool
-touch p =
-    let greaterLow = betterOf (λ a b. ltZ b a) (p .a .low) (p .b .low) in
-    let lesserHigh = betterOf ltZ (p .a .high) (p .b .high) in
-    not (ltZ greaterLow lesserHigh) && not (ltZ lesserHigh greaterLow)
+abbrev pub touchOf : Projections → Bool
+touchOf p = touch (p .a .low) (p .a .high) (p .b .low) (p .b .high)

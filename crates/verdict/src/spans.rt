@@ -6,7 +6,7 @@ ghost use lib.Signed.{_≤ℤ_};
 ghost use Rattle.span.specs.Outcome.{outcomeIn};
 ghost use Rattle.moves.specs.HeldMove.{Fit, moveHeld};
 ghost use Rattle.verdict.specs.Sides.{sideCount, sideOf};
-ghost use Rattle.verdict.specs.Projections.{projections, Small, windowOf, touch};
+ghost use Rattle.verdict.specs.Projections.{projections, Small, windowOf, touchOf};
 ghost use Rattle.plane.specs.Interval.{touches};
 ghost use Rattle.plane.specs.Near.{Near};
 ghost use Rattle.verdict.specs.Span.{spanIn, spansIn};
@@ -127,17 +127,12 @@ pub fn outcome(edition: Edition, m: HeldMove) -> Outcome
 }
 
 // Whether the two intervals of a side share exactly one value.
-fn touch(p: Projections) -> bool
-    ensures { λ r. ⌜ r ≡ touch p ⌝ }
+fn touch_of(p: Projections) -> bool
+    ensures { λ r. ⌜ r ≡ touchOf p ⌝ }
 {
     let on_a = p.a;
     let on_b = p.b;
-    let low = whole::greater(on_a.low, on_b.low);
-    let high = whole::lesser(on_a.high, on_b.high);
-    if low < high {
-        return false;
-    }
-    !(high < low)
+    whole::touch(on_a.low, on_a.high, on_b.low, on_b.high)
 }
 
 // Whether the two intervals of side k share exactly one value at time zero.
@@ -147,9 +142,9 @@ fn touches(m: HeldMove, k: usize) -> bool
 {
     let a = m.a;
     if k < a.count {
-        return touch(side_of_a(m, k));
+        return touch_of(side_of_a(m, k));
     }
-    touch(side_of_b(m, k))
+    touch_of(side_of_b(m, k))
 }
 
 // The lowest side on which they do, or the number of sides where there is none.

@@ -7,6 +7,7 @@ use Rattle.whole.proofs.reduced.Reads as reduced
 use Rattle.whole.proofs.before.Reads as before
 use Rattle.whole.proofs.lesser.Reads as lesser
 use Rattle.whole.proofs.greater.Reads as greater
+use Rattle.whole.proofs.touch.Reads as touch
 
 pub gcd-determined : (κs : Lfts 0) → Determined (gcd.Learnt κs) (λ r e. r)
 gcd-determined κs = determined (λ a r e p. p)
@@ -22,3 +23,6 @@ lesser-determined κs = determined (λ a r e p. p)
 
 pub greater-determined : (κs : Lfts 0) → Determined (greater.Learnt κs) (λ r e. r)
 greater-determined κs = determined (λ a r e p. p)
+
+pub touch-determined : (κs : Lfts 0) → Determined (touch.Learnt κs) (λ r e. r)
+touch-determined κs = determined (λ a r e p. p)

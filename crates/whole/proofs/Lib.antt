@@ -8,6 +8,7 @@ pub mod Machine
 pub mod Flags
 pub mod Indices
 pub mod Betters
+pub mod Ends
 pub mod Members
 pub mod Tables
 pub mod Along

@@ -3,6 +3,7 @@ ghost use mathlib.Core.Path.{_≡_};
 ghost use Prim.Native.Nat.{_≤_};
 ghost use lib.Signed.{ltZ};
 ghost use Rattle.whole.specs.Best.{betterOf};
+ghost use Rattle.whole.specs.Ends.{touch};
 ghost use Rattle.whole.specs.Time.{Short, gcd, reduced, before};
 
 // The fraction n/d of a unit of time; d is at least 1.
@@ -62,4 +63,16 @@ pub fn greater(a: i64, b: i64) -> i64
         return b;
     }
     a
+}
+
+// Whether the interval from a to b and that from c to d share exactly one value.
+pub fn touch(a: i64, b: i64, c: i64, d: i64) -> bool
+    ensures { λ r. ⌜ r ≡ touch a b c d ⌝ }
+{
+    let low = greater(a, c);
+    let high = lesser(b, d);
+    if low < high {
+        return false;
+    }
+    !(high < low)
 }
