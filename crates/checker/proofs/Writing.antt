@@ -15,7 +15,6 @@ use Rattle.moves.specs.Move.{Move, moveOfLists}
 use Rattle.moves.specs.HeldMove.{Fit, moveHeld, heldMove}
 use Rattle.moves.specs.Refusal.{refusalOfLists}
 use Rattle.outline.specs.Refusal.{isNone}
-use Rattle.outline.specs.declared.Refusal.{Refusal}
 use Rattle.outline.specs.declared.Refusal.the-variants.{None, Plain}
 use Rattle.moves.proofs.Carrying.{carried-zero}
 use Rattle.moves.specs.Reading.{readingOfLists}
@@ -36,7 +35,7 @@ use Rattle.frame.specs.Said.{wrote, refusalIn}
 use Rattle.moveline.proofs.FrameMove.{moveFrame-length}
 use Rattle.log.specs.Steps.{keptAfter, lostAt}
 use Rattle.log.specs.declared.Kept.{Kept}
-use Rattle.checker.specs.Entries.{spoken, spokenOut, written, writtenOut, keptIn, lostIn}
+use Rattle.checker.specs.Entries.{spoken, spokenOut, ToWrite, written, writtenOut, keptIn, lostIn}
 
 -- ---- an answer
 module _ (r : Answer) (out : List ℕ) where
@@ -58,19 +57,19 @@ module _ (kept : Kept) (l : List ℕ) (room : ℕ) where
   unfolding keptIn lostIn
   kept-wide h = let t = le-ltb room 45 h in (sym (rw t), sym (rw t))
 
--- ---- a line that may need so many bytes
-module _ (need : ℕ) (why : Refusal) (line out : List ℕ) where
-  pub line-narrow : length out < need → (wrote (Plain 1) 0 ≡ written need why line (length out)) × (out ≡ writtenOut need why line out)
+-- ---- a line to write
+module _ (l : ToWrite) (out : List ℕ) where
+  pub line-narrow : length out < l .need → (wrote (Plain 1) 0 ≡ written l (length out)) × (out ≡ writtenOut l out)
   unfolding written writtenOut
-  line-narrow h = let t = lt-ltb (length out) need h in (sym (rw t), sym (rw t))
+  line-narrow h = let t = lt-ltb (length out) (l .need) h in (sym (rw t), sym (rw t))
 
-  pub line-refused : need ≤ length out → isNone why ≡ false → (wrote why 0 ≡ written need why line (length out)) × (out ≡ writtenOut need why line out)
+  pub line-refused : l .need ≤ length out → isNone (l .why) ≡ false → (wrote (l .why) 0 ≡ written l (length out)) × (out ≡ writtenOut l out)
   unfolding written writtenOut
-  line-refused h u = let t = le-ltb (length out) need h in (sym (rw (t, u)), sym (rw (t, u)))
+  line-refused h u = let t = le-ltb (length out) (l .need) h in (sym (rw (t, u)), sym (rw (t, u)))
 
-  pub line-written : need ≤ length out → isNone why ≡ true → (wrote None (length line) ≡ written need why line (length out)) × (over line out ≡ writtenOut need why line out)
+  pub line-written : l .need ≤ length out → isNone (l .why) ≡ true → (wrote None (length (l .line)) ≡ written l (length out)) × (over (l .line) out ≡ writtenOut l out)
   unfolding written writtenOut
-  line-written h u = let t = le-ltb (length out) need h in (sym (rw (t, u)), sym (rw (t, u)))
+  line-written h u = let t = le-ltb (length out) (l .need) h in (sym (rw (t, u)), sym (rw (t, u)))
 
 -- ---- a move handed in as lists, that is not refused
 module _ (xs ys : List ℤ) (va vb : Corner) (T : ℤ) where

@@ -1,11 +1,13 @@
 -- What the entry points that write a line answer, and every byte of the lent output afterwards.
 --   spoken r room                        for an answer r and so many bytes lent: refusal 1 under 45, else the answer's refusal and its line's length
 --   spokenOut r out                      the lent bytes afterwards: the answer line over the first of them, the others as they were
---   written need why line room           for a line that may need so many bytes: refusal 1 under them, else the refusal why, else the line's length
---   writtenOut need why line out         the lent bytes afterwards: the line over the first of them, or all as they were
+--   ToWrite                              a line to write: how many bytes it asks for, the refusal that keeps it back, or none, and its bytes
+--   moveToWrite ..                       the line of a move handed in as lists; rectanglesToWrite .., that of a move of rectangles
+--   written l room                       for a line to write: refusal 1 under the bytes that it asks for, else its refusal, else its length
+--   writtenOut l out                     the lent bytes afterwards: the line over the first of them, or all as they were
 --   keptIn kept l room, lostIn kept l room    of a step along a log: what is kept afterwards, and how many lines were lost; a step refused with 1 keeps and loses nothing
 --   Speaks r w out out′                  a call that returns w and leaves out′ of the lent bytes out has done the former for the answer r
---   Writes need why line w out out′      it has done the latter; WritesMove .., for the line of a move handed in as lists; WritesRectangles .., for that of rectangles
+--   Writes l w out out′                  it has done the latter for the line l
 --   StepsAlong kept l s out out′         a call that returns s and leaves out′ has taken the step from what is kept with the log line l
 use mathlib.Core.Path.{_≡_}
 use mathlib.Core.Bool.{cond}
@@ -39,23 +41,28 @@ spoken r room = cond (ltb room 45) (wrote (Plain 1) 0) (wrote (refusalIn r) (len
 unfoldable pub spokenOut : Answer → List ℕ → List ℕ
 spokenOut r out = cond (ltb (length out) 45) out (over (answerLine r) out)
 
-unfoldable pub written : ℕ → Refusal → List ℕ → ℕ → Written
-written need why line room = cond (ltb room need) (wrote (Plain 1) 0) (cond (isNone why) (wrote None (length line)) (wrote why 0))
+pub record ToWrite : Type 0 where
+  pub need : ℕ
+  pub why : Refusal
+  pub line : List ℕ
 
-unfoldable pub writtenOut : ℕ → Refusal → List ℕ → List ℕ → List ℕ
-writtenOut need why line out = cond (ltb (length out) need) out (cond (isNone why) (over line out) out)
+abbrev pub moveToWrite : List ℤ → List ℤ → Corner → Corner → ℤ → ToWrite
+moveToWrite xs ys va vb T = record { need = 283; why = readingOfLists xs ys va vb T .refusal; line = moveLine (moveOfLists xs ys va vb T) }
+
+abbrev pub rectanglesToWrite : List ℤ → List ℤ → Corner → Corner → ℤ → ToWrite
+rectanglesToWrite xs ys va vb T = record { need = 55; why = rectangles.readingOfLists xs ys va vb T .refusal; line = rectangleLine (second.moveOfLists xs ys va vb T) }
+
+unfoldable pub written : ToWrite → ℕ → Written
+written l room = cond (ltb room (l .need)) (wrote (Plain 1) 0) (cond (isNone (l .why)) (wrote None (length (l .line))) (wrote (l .why) 0))
+
+unfoldable pub writtenOut : ToWrite → List ℕ → List ℕ
+writtenOut l out = cond (ltb (length out) (l .need)) out (cond (isNone (l .why)) (over (l .line) out) out)
 
 abbrev pub Speaks : Answer → Written → List ℕ → List ℕ → Type 0
 Speaks r w out out′ = (w ≡ spoken r (length out)) × (out′ ≡ spokenOut r out)
 
-abbrev pub Writes : ℕ → Refusal → List ℕ → Written → List ℕ → List ℕ → Type 0
-Writes need why line w out out′ = (w ≡ written need why line (length out)) × (out′ ≡ writtenOut need why line out)
-
-abbrev pub WritesMove : List ℤ → List ℤ → Corner → Corner → ℤ → Written → List ℕ → List ℕ → Type 0
-WritesMove xs ys va vb T = Writes 283 (readingOfLists xs ys va vb T .refusal) (moveLine (moveOfLists xs ys va vb T))
-
-abbrev pub WritesRectangles : List ℤ → List ℤ → Corner → Corner → ℤ → Written → List ℕ → List ℕ → Type 0
-WritesRectangles xs ys va vb T = Writes 55 (rectangles.readingOfLists xs ys va vb T .refusal) (rectangleLine (second.moveOfLists xs ys va vb T))
+abbrev pub Writes : ToWrite → Written → List ℕ → List ℕ → Type 0
+Writes l w out out′ = (w ≡ written l (length out)) × (out′ ≡ writtenOut l out)
 
 unfoldable pub keptIn : Kept → List ℕ → ℕ → Kept
 keptIn kept l room = cond (ltb room 45) kept (keptAfter kept l)

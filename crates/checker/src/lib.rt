@@ -9,7 +9,7 @@ ghost use Rattle.rectangleline.specs.Reading as second;
 ghost use Rattle.frame.specs.AnswerOfLine.{answerOfLine, kindOfLine};
 ghost use Rattle.frame.specs.Said.{wrote};
 ghost use Rattle.log.specs.LogLine.{entryOf};
-ghost use Rattle.checker.specs.Entries.{Speaks, WritesMove, WritesRectangles, StepsAlong};
+ghost use Rattle.checker.specs.Entries.{Speaks, Writes, moveToWrite, rectanglesToWrite, StepsAlong};
 use frame::Kind;
 use frame::Written;
 use log::Entry;
@@ -106,7 +106,7 @@ pub fn write_move(
     limit: i64,
     out: &mut [u8],
 ) -> Written
-    ensures { λ w. ⌜ WritesMove (now (a .entry)) (now (b .entry)) va vb limit w (now (out .entry)) (now (out .exit)) ⌝ }
+    ensures { λ w. ⌜ Writes (moveToWrite (now (a .entry)) (now (b .entry)) va vb limit) w (now (out .entry)) (now (out .exit)) ⌝ }
 {
     if out.len() < MOVE_ROOM {
         return no_room();
@@ -137,7 +137,7 @@ pub fn write_rectangles(
     limit: i64,
     out: &mut [u8],
 ) -> Written
-    ensures { λ w. ⌜ WritesRectangles (now (a .entry)) (now (b .entry)) va vb limit w (now (out .entry)) (now (out .exit)) ⌝ }
+    ensures { λ w. ⌜ Writes (rectanglesToWrite (now (a .entry)) (now (b .entry)) va vb limit) w (now (out .entry)) (now (out .exit)) ⌝ }
 {
     if out.len() < RECTANGLES_ROOM {
         return no_room();

@@ -2,28 +2,20 @@
 --   edgeOr x was              the edge that x carries; where it carries none, what was there
 --   Hands x r was edge        a call with the refusal x returns its number r and leaves `edge` where `was` stood
 --   HandsOut w r bytes was edge    the same, with how many bytes were written
---   SpeaksOut x .. out out′        a call that hands out so has written the answer x into out, where there is room, and leaves out′; WritesOut .., a line; WritesMoveOut .., the line of a move; WritesRectanglesOut .., that of a move of rectangles
+--   SpeaksOut x .. out out′        a call that hands out so has written the answer x into out, where there is room, and leaves out′; WritesOut l .., the line l
 --   refusalOfKind, kindOr k was    of the kind of a line: its refusal, or none; its number 1 or 2, or what was there
 use mathlib.Core.Path.{_≡_}
 use mathlib.Core.List.{List}
 use Prim.Native.Nat.{ℕ}
-use lib.IntN.{ℤ}
 use lib.ListN.{length}
-use Rattle.plane.specs.declared.Corner.{Corner}
 use Rattle.outline.specs.Refusal.{numberIn}
 use Rattle.outline.specs.declared.Refusal.{Refusal}
 use Rattle.outline.specs.declared.Refusal.the-variants.{None, Plain, AtEdge}
 use Rattle.verdict.specs.declared.Answer.{Answer}
-use Rattle.moves.specs.Move.{moveOfLists}
-use Rattle.moves.specs.Reading.{readingOfLists}
-use Rattle.rectangle.specs.Rectangle as second
-use Rattle.rectangle.specs.Reading as rectangles
-use Rattle.moveline.specs.MoveFrame.{moveLine}
-use Rattle.rectangleline.specs.RectangleFrame.{rectangleLine}
 use Rattle.frame.specs.declared.Written.{Written}
 use Rattle.frame.specs.declared.Kind.{Kind}
 use Rattle.frame.specs.declared.Kind.the-variants.{Outlines, Rectangles, Refused}
-use Rattle.checker.specs.Entries.{spoken, spokenOut, written, writtenOut}
+use Rattle.checker.specs.Entries.{spoken, spokenOut, ToWrite, written, writtenOut}
 
 abbrev pub edgeOr : Refusal → ℕ → ℕ
 edgeOr None was = was
@@ -39,14 +31,8 @@ HandsOut w r bytes was edge = Hands (w .refusal) r was edge × (bytes ≡ w .byt
 abbrev pub SpeaksOut : Answer → ℕ → ℕ → ℕ → ℕ → List ℕ → List ℕ → Type 0
 SpeaksOut x r bytes was edge out out′ = HandsOut (spoken x (length out)) r bytes was edge × (out′ ≡ spokenOut x out)
 
-abbrev pub WritesOut : ℕ → Refusal → List ℕ → ℕ → ℕ → ℕ → ℕ → List ℕ → List ℕ → Type 0
-WritesOut need why line r bytes was edge out out′ = HandsOut (written need why line (length out)) r bytes was edge × (out′ ≡ writtenOut need why line out)
-
-abbrev pub WritesMoveOut : List ℤ → List ℤ → Corner → Corner → ℤ → ℕ → ℕ → ℕ → ℕ → List ℕ → List ℕ → Type 0
-WritesMoveOut xs ys va vb T = WritesOut 283 (readingOfLists xs ys va vb T .refusal) (moveLine (moveOfLists xs ys va vb T))
-
-abbrev pub WritesRectanglesOut : List ℤ → List ℤ → Corner → Corner → ℤ → ℕ → ℕ → ℕ → ℕ → List ℕ → List ℕ → Type 0
-WritesRectanglesOut xs ys va vb T = WritesOut 55 (rectangles.readingOfLists xs ys va vb T .refusal) (rectangleLine (second.moveOfLists xs ys va vb T))
+abbrev pub WritesOut : ToWrite → ℕ → ℕ → ℕ → ℕ → List ℕ → List ℕ → Type 0
+WritesOut l r bytes was edge out out′ = HandsOut (written l (length out)) r bytes was edge × (out′ ≡ writtenOut l out)
 
 -- ---- the kind of a line
 abbrev pub refusalOfKind : Kind → Refusal

@@ -10,10 +10,11 @@ ghost use Rattle.rectangleline.specs.Reading as second;
 ghost use Rattle.frame.specs.AnswerOfLine.{answerOfLine, kindOfLine};
 ghost use Rattle.moveline.specs.Reading.{readingOfLine};
 ghost use Rattle.log.specs.LogLine.{entryOf};
+ghost use Rattle.checker.specs.Entries.{moveToWrite, rectanglesToWrite};
 ghost use Rattle.stonefruitle_c.specs.Numbers.{numbers, rectangleNumbers};
 ghost use Rattle.stonefruitle_c.specs.Editions.{editionNumbers, refusalIn};
 ghost use Rattle.stonefruitle_c.specs.Kept.{keptOf, StepsOut};
-ghost use Rattle.stonefruitle_c.specs.Handed.{Hands, SpeaksOut, WritesMoveOut, WritesRectanglesOut, refusalOfKind, kindOr};
+ghost use Rattle.stonefruitle_c.specs.Handed.{Hands, SpeaksOut, WritesOut, refusalOfKind, kindOr};
 
 mod editions; // an answer of a named edition as a list of numbers
 mod handed; // what is handed out of a refusal and of the kind of a line
@@ -130,7 +131,7 @@ pub extern "C" fn stonefruitle_write_move(
     written: &mut usize,
     edge: &mut u8,
 ) -> u8
-    ensures { λ r. ⌜ WritesMoveOut (now (a .entry)) (now (b .entry)) (point vax vay) (point vbx vby) limit r (now (written .exit)) (now (edge .entry)) (now (edge .exit)) (now (out .entry)) (now (out .exit)) ⌝ }
+    ensures { λ r. ⌜ WritesOut (moveToWrite (now (a .entry)) (now (b .entry)) (point vax vay) (point vbx vby) limit) r (now (written .exit)) (now (edge .entry)) (now (edge .exit)) (now (out .entry)) (now (out .exit)) ⌝ }
 {
     let va = Corner { x: vax, y: vay };
     let vb = Corner { x: vbx, y: vby };
@@ -155,7 +156,7 @@ pub extern "C" fn stonefruitle_write_rectangles(
     written: &mut usize,
     edge: &mut u8,
 ) -> u8
-    ensures { λ r. ⌜ WritesRectanglesOut (now (a .entry)) (now (b .entry)) (point vax vay) (point vbx vby) limit r (now (written .exit)) (now (edge .entry)) (now (edge .exit)) (now (out .entry)) (now (out .exit)) ⌝ }
+    ensures { λ r. ⌜ WritesOut (rectanglesToWrite (now (a .entry)) (now (b .entry)) (point vax vay) (point vbx vby) limit) r (now (written .exit)) (now (edge .entry)) (now (edge .exit)) (now (out .entry)) (now (out .exit)) ⌝ }
 {
     let va = Corner { x: vax, y: vay };
     let vb = Corner { x: vbx, y: vby };

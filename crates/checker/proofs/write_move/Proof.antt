@@ -18,6 +18,7 @@ use Rattle.hex.proofs.Pushing.{framed-bytes, framed-whole}
 use Rattle.frame.specs.Said.{wrote}
 use Rattle.outline.specs.Refusal.{isNone}
 use Rattle.outline.specs.declared.Refusal.the-variants.{None}
+use Rattle.checker.specs.Entries.{moveToWrite}
 use Rattle.checker.proofs.Writing.{line-narrow, line-refused, line-written, read-fit, read-move, read-short}
 use Rattle.checker.proofs.write_move.Statement.{statement}
 use Rattle.checker.proofs.write_move.Tie as tie
@@ -45,7 +46,7 @@ no-room-requires c κs = search needs
 returns : tie.Need-returns
 returns c =
     let s = c .before .before .before .args in
-    let is = line-narrow 283 (readingOfLists (s .a .now) (s .b .now) (s .va) (s .vb) (s .limit) .refusal) (moveLine (moveOfLists (s .a .now) (s .b .now) (s .va) (s .vb) (s .limit))) (s .out .now) (c .before .if1 .taken) in
+    let is = line-narrow (moveToWrite (s .a .now) (s .b .now) (s .va) (s .vb) (s .limit)) (s .out .now) (c .before .if1 .taken) in
     (c .no-room .ensures ∙ is .0, is .1)
 
 read-lists-requires : tie.Need-read-lists-requires
@@ -59,7 +60,7 @@ returns-2 c =
     let r = c .before .before in
     let s = r .before .before .before .args in
     let why = ap (λ (x : Reading). x .refusal) (the-reading r) in
-    let is = line-refused 283 (readingOfLists (s .a .now) (s .b .now) (s .va) (s .vb) (s .limit) .refusal) (moveLine (moveOfLists (s .a .now) (s .b .now) (s .va) (s .vb) (s .limit))) (s .out .now) (r .before .if1 .left) (ap isNone (sym why) ∙ sym (c .before .is-none .ensures) ∙ not-true _ (c .if2 .taken)) in
+    let is = line-refused (moveToWrite (s .a .now) (s .b .now) (s .va) (s .vb) (s .limit)) (s .out .now) (r .before .if1 .left) (ap isNone (sym why) ∙ sym (c .before .is-none .ensures) ∙ not-true _ (c .if2 .taken)) in
     (ap (λ n. wrote n 0) why ∙ is .0, is .1)
 
 move-frame-requires : tie.Need-move-frame-requires
@@ -85,7 +86,7 @@ returns-3 c =
     let s = r .before .before .before .args in
     let m = moveOfLists (s .a .now) (s .b .now) (s .va) (s .vb) (s .limit) in
     let none = is-accepted e in
-    let is = line-written 283 (readingOfLists (s .a .now) (s .b .now) (s .va) (s .vb) (s .limit) .refusal) (moveLine m) (s .out .now) (r .before .if1 .left) (ap isNone (sym (ap (λ (x : Reading). x .refusal) (the-reading r))) ∙ none) in
+    let is = line-written (moveToWrite (s .a .now) (s .b .now) (s .va) (s .vb) (s .limit)) (s .out .now) (r .before .if1 .left) (ap isNone (sym (ap (λ (x : Reading). x .refusal) (the-reading r))) ∙ none) in
     let bytes = ap frameBytes (f .move-frame .ensures ∙ ap (λ x. framed (moveFrame x)) (read-move _ _ _ _ _ _ (the-reading r) none)) ∙ framed-bytes (moveFrame m) in
     let put = c .before .before .put-line .ensures in
     (ap (wrote None) (put .0 ∙ ap (λ b. length (hexLine b)) bytes) ∙ is .0, put .1 ∙ ap (λ b. over (hexLine b) (s .out .now)) bytes ∙ is .1)
