@@ -1,6 +1,6 @@
 -- An answer of a named edition, as 12 numbers: the case, the two sides named, n and d of first, n and d of last, the bearing, the showing's kind and its two numbers, the sides worked.
 --   editionNumbers r    the case is 0 clear by one, 1 clear by two, 2 contact in edition 1, 3 contact in edition 2; 0 stands where there is nothing to say, so twelve times where it is refused
---   refusalIn r         the refusal, or none
+--   editionRefusal r    the refusal, or none
 use mathlib.Core.List.{List, [], _∷_, _++_}
 use Prim.Native.Nat.{ℕ}
 use Rattle.outline.specs.declared.Refusal.{Refusal}
@@ -16,9 +16,9 @@ editionNumbers (Contact e w) = 2 ∷ 0 ∷ 0 ∷ e .first .n ∷ e .first .d ∷
 editionNumbers (Inside first last w) = 3 ∷ 0 ∷ 0 ∷ first .n ∷ first .d ∷ last .n ∷ last .d ∷ 0 ∷ 0 ∷ 0 ∷ 0 ∷ w ∷ []
 editionNumbers (Refused r) = 0 ∷ 0 ∷ 0 ∷ 0 ∷ 0 ∷ 0 ∷ 0 ∷ 0 ∷ 0 ∷ 0 ∷ 0 ∷ 0 ∷ []
 
-abbrev pub refusalIn : EditionAnswer → Refusal
-refusalIn (ClearByOne k w) = None
-refusalIn (ClearByTwo i j w) = None
-refusalIn (Contact e w) = None
-refusalIn (Inside first last w) = None
-refusalIn (Refused r) = r
+abbrev pub editionRefusal : EditionAnswer → Refusal
+editionRefusal (ClearByOne k w) = None
+editionRefusal (ClearByTwo i j w) = None
+editionRefusal (Contact e w) = None
+editionRefusal (Inside first last w) = None
+editionRefusal (Refused r) = r

@@ -2,7 +2,7 @@
 ghost use mathlib.Core.Path.{_≡_};
 ghost use Rattle.verdict.specs.Answer.{bearingNumber, showingNumbers};
 ghost use Rattle.verdict.specs.declared.editions.EditionAnswer.the-variants.{Contact, Inside};
-ghost use Rattle.stonefruitle_c.specs.Editions.{editionNumbers, refusalIn};
+ghost use Rattle.stonefruitle_c.specs.Editions.{editionNumbers, editionRefusal};
 use outline::Refusal;
 use showing::Showing;
 use verdict::Bearing;
@@ -93,8 +93,8 @@ pub fn edition_numbers(r: EditionAnswer) -> [u64; 12]
 }
 
 // The refusal in an answer.
-pub fn refusal_in(r: EditionAnswer) -> Refusal
-    ensures { λ x. ⌜ x ≡ refusalIn r ⌝ }
+pub fn edition_refusal(r: EditionAnswer) -> Refusal
+    ensures { λ x. ⌜ x ≡ editionRefusal r ⌝ }
 {
     match r {
         EditionAnswer::ClearByOne(_, _) => Refusal::None,

@@ -12,7 +12,7 @@ ghost use Rattle.moveline.specs.Reading.{readingOfLine};
 ghost use Rattle.log.specs.LogLine.{entryOf};
 ghost use Rattle.checker.specs.Entries.{moveToWrite, rectanglesToWrite};
 ghost use Rattle.stonefruitle_c.specs.Numbers.{numbers, rectangleNumbers};
-ghost use Rattle.stonefruitle_c.specs.Editions.{editionNumbers, refusalIn};
+ghost use Rattle.stonefruitle_c.specs.Editions.{editionNumbers, editionRefusal};
 ghost use Rattle.stonefruitle_c.specs.Kept.{keptOf, StepsOut};
 ghost use Rattle.stonefruitle_c.specs.Handed.{Hands, SpeaksOut, WritesOut, refusalOfKind, kindOr};
 
@@ -106,12 +106,12 @@ pub extern "C" fn stonefruitle_answer_edition(
     into: &mut [u64; 12],
     edge: &mut u8,
 ) -> u8
-    ensures { λ r. ⌜ Hands (refusalIn (answerIn edition (now (a .entry)) (now (b .entry)) (point vax vay) (point vbx vby) limit)) r (now (edge .entry)) (now (edge .exit)) × (now (into .exit) ≡ editionNumbers (answerIn edition (now (a .entry)) (now (b .entry)) (point vax vay) (point vbx vby) limit)) ⌝ }
+    ensures { λ r. ⌜ Hands (editionRefusal (answerIn edition (now (a .entry)) (now (b .entry)) (point vax vay) (point vbx vby) limit)) r (now (edge .entry)) (now (edge .exit)) × (now (into .exit) ≡ editionNumbers (answerIn edition (now (a .entry)) (now (b .entry)) (point vax vay) (point vbx vby) limit)) ⌝ }
 {
     let va = Corner { x: vax, y: vay };
     let vb = Corner { x: vbx, y: vby };
     let x = checker::answer_edition(edition, a, b, va, vb, limit);
-    let why = editions::refusal_in(x);
+    let why = editions::edition_refusal(x);
     *into = editions::edition_numbers(x);
     *edge = handed::edge_or(why, *edge);
     outline::number_of(why)
