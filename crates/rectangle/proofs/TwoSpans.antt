@@ -8,9 +8,9 @@ use lib.IntN.{ℤ, negℤ, natAbs, _-ℤ_, _*ℤ_}
 use lib.Signed.{_≤ℤ_}
 use Rattle.whole.proofs.Ring.{reps, by-ring}
 use Rattle.whole.proofs.Order.{<-le}
+use Rattle.whole.proofs.Casts.{limit-short}
 use Rattle.span.specs.Outcome.{spanAt, outcome}
 use Rattle.span.specs.declared.Edition.the-variants.{First}
-use Rattle.span.proofs.Casts.{limit-short}
 use Rattle.span.proofs.Windows.{Good, ShortSpan, window-good}
 use Rattle.span.proofs.Outcomes.{Made}
 use Rattle.span.proofs.Alike.{Alike, Agree, inLowest, window-scaled, window-turned, outcome-agree}

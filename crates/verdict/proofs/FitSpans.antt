@@ -9,9 +9,9 @@ use lib.ListN.{length}
 use borrow.Author.Tests.{ltb-true, ltb-false}
 use Rattle.whole.specs.Within.{Within}
 use Rattle.whole.proofs.Bound.{bounds, within}
+use Rattle.whole.proofs.Casts.{limit-short}
 use Rattle.span.specs.declared.Edition.{Edition}
 use Rattle.span.proofs.Windows.{ShortSpan, window-short}
-use Rattle.span.proofs.Casts.{limit-short}
 use Rattle.span.proofs.Outcomes.{Made}
 use Rattle.plane.specs.Point.{side, dot}
 use Rattle.plane.specs.Near.{Near}

@@ -5,7 +5,7 @@ use lib.IntN.{pos}
 use lib.Signed.{ltZ}
 use mir.Facts.{toZ-ofZ}
 use Rattle.whole.proofs.Linear.{ints}
-use Rattle.span.proofs.Casts.{cast-fits}
+use Rattle.whole.proofs.Casts.{cast-fits}
 use Rattle.span.proofs.begin_at.Statement.{statement}
 use Rattle.span.proofs.begin_at.Tie as tie
 use Rattle.span.proofs.begin_at.Reads as reads
@@ -18,13 +18,13 @@ cast-t4 : tie.Need-cast-t4
 cast-t4 c =
     let s = c .before in
     let h = above c in
-    cast-fits (s .args .lo) (s .fits .lo) (omega ints) (s .pre .0)
+    cast-fits (s .args .lo) (s .fits .lo) (omega ints)
 
 cast-t5 : tie.Need-cast-t5
 cast-t5 c =
     let s = c .before in
     let h = s .pre .2 in
-    cast-fits (s .args .w) (s .fits .w) (omega ints) (s .pre .1)
+    cast-fits (s .args .w) (s .fits .w) (omega ints)
 
 returns : tie.Need-returns
 returns c =

@@ -7,7 +7,7 @@ use mir.Val.{toZ, ofZ}
 use mir.Facts.{toZ-ofZ}
 use Rattle.whole.proofs.Bound.{bounds, fits}
 use Rattle.whole.proofs.Linear.{ints}
-use Rattle.span.proofs.Casts.{cast-fits, limit-within, limit-cast, limit-times}
+use Rattle.whole.proofs.Casts.{cast-fits, limit-within, limit-cast, limit-times}
 use Rattle.span.proofs.end_at.Statement.{statement}
 use Rattle.span.proofs.end_at.Tie as tie
 use Rattle.span.proofs.end_at.Reads as reads
@@ -23,13 +23,13 @@ tested : (c : lts.Start reads.Pre reads.Post) → ltZ (c .args .hi) (pos (natAbs
 tested c = sym (ap₂ ltZ (toZ-ofZ (c .fits .hi)) (limit-times (c .args .limit) (c .args .w) (c .fits .limit) (c .fits .w) (c .pre .4 .0) (mul-if1 c)))
 
 cast-t6 : tie.Need-cast-t6
-cast-t6 c = let s = c .before in cast-fits (s .args .hi) (s .fits .hi) (s .pre .1) (s .pre .0)
+cast-t6 c = let s = c .before in cast-fits (s .args .hi) (s .fits .hi) (s .pre .1)
 
 cast-t7 : tie.Need-cast-t7
 cast-t7 c =
     let s = c .before in
     let h = s .pre .3 in
-    cast-fits (s .args .w) (s .fits .w) (omega ints) (s .pre .2)
+    cast-fits (s .args .w) (s .fits .w) (omega ints)
 
 returns : tie.Need-returns
 returns c =
@@ -37,7 +37,7 @@ returns c =
     rw (toZ-ofZ (s .fits .hi), toZ-ofZ (s .fits .w), tested s ∙ c .if1 .taken)
 
 cast-t8 : tie.Need-cast-t8
-cast-t8 c = let s = c .before in limit-cast (s .args .limit) (s .fits .limit) (s .pre .4)
+cast-t8 c = let s = c .before in limit-cast (s .args .limit) (s .pre .4)
 
 returns-2 : tie.Need-returns-2
 returns-2 c =

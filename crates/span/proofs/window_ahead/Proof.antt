@@ -5,9 +5,9 @@ use lib.IntN.{pos, natAbs, _*ℤ_}
 use mir.Facts.{toZ-ofZ}
 use borrow.Author.Needs.{needs}
 use Rattle.whole.proofs.Bound.{bounds, fits}
+use Rattle.whole.proofs.Casts.{limit-within, limit-times}
 use Rattle.span.specs.Window.{misses, windowAheadIn}
 use Rattle.span.specs.declared.Span.the-variants.{Between}
-use Rattle.span.proofs.Casts.{limit-within, limit-times}
 use Rattle.span.proofs.Editions.{misses-no}
 use Rattle.span.proofs.window_ahead.Statement.{statement}
 use Rattle.span.proofs.window_ahead.Tie as tie

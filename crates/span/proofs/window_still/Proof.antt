@@ -3,8 +3,8 @@ use mathlib.Core.Path.{_≡_, sym, _∙_, ap}
 use lib.IntN.{pos}
 use mir.Facts.{toZ-ofZ}
 use borrow.Author.Needs.{needs}
+use Rattle.whole.proofs.Casts.{limit-cast}
 use Rattle.span.specs.Window.{misses, windowStillIn}
-use Rattle.span.proofs.Casts.{limit-cast}
 use Rattle.span.proofs.window_still.Statement.{statement}
 use Rattle.span.proofs.window_still.Tie as tie
 use Rattle.span.proofs.window_still.Reads as reads
@@ -33,7 +33,7 @@ unfolding windowStillIn
 returns-2 c = let at = c .before .before in rw (above (at .before) ∙ at .if1 .left, below (c .before) ∙ c .if2 .taken)
 
 cast-t8 : tie.Need-cast-t8
-cast-t8 c = let s = c .before .before .before .before in limit-cast (s .args .limit) (s .fits .limit) (s .pre)
+cast-t8 c = let s = c .before .before .before .before in limit-cast (s .args .limit) (s .pre)
 
 returns-3 : tie.Need-returns-3
 unfolding windowStillIn

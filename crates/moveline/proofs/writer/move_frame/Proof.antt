@@ -1,16 +1,11 @@
 -- The parts of the frame in a chain of pushes onto the empty frame.
 use mathlib.Core.Path.{_≡_}
 use mathlib.Core.List.{List, [], _∷_, _++_, flatMap}
-use Prim.Native.Nat.{ℕ, _*_, _≤_}
+use Prim.Native.Nat.{ℕ, _*_}
 use native.Mathlib.Omega.{arith}
-use lib.Dec.{T}
-use lib.IntN.{ℤ, pos, negsuc, natAbs}
+use lib.IntN.{natAbs}
 use lib.ListN.{length}
-use lib.Signed.{nonNeg, _≤ℤ_}
-use mir.Syntax.{w64}
-use mir.Val.{SFits, toZ, ofZ}
-use mir.Facts.{toZ-ofZ}
-use Rattle.whole.proofs.Linear.{ints}
+use Rattle.whole.proofs.Casts.{limit-read, limit-cast}
 use Rattle.outline.specs.Held.{cornersHeld}
 use Rattle.outline.proofs.Places.{held-length}
 use Rattle.moves.specs.HeldMove.{Fit}
@@ -30,13 +25,6 @@ use Rattle.hex.proofs.frames.push.Reads as push-reads
 use Rattle.hex.proofs.frames.push2.Reads as push2-reads
 use Rattle.moveline.proofs.writer.push_outline.Reads as push-outline-reads
 use Rattle.moveline.proofs.pairs.push_pair.Reads as push-pair-reads
-
-limit-from : (z : ℤ) → pos 0 ≤ℤ z → z ≤ℤ pos 10000 → T (nonNeg z) × (natAbs z ≤ 10000) × SFits w64 z
-limit-from (pos n) h k = let few : n ≤ 10000 = omega ints in (tt, few, record { sfits = omega arith })
-limit-from (negsuc n) h k = absurd (omega ints)
-
-limit-read : (m : HeldMove) → Fit m → toZ w64 (ofZ w64 (m .limit)) ≡ m .limit
-limit-read m f = toZ-ofZ (limit-from (m .limit) (f .from-zero) (f .to-limit) .2)
 
 corners-held : (m : HeldMove) → Fit m → (length (flatMap pairBytes (cornersHeld (m .a))) ≡ 4 * m .a .count) × (length (flatMap pairBytes (cornersHeld (m .b))) ≡ 4 * m .b .count)
 corners-held m f =
@@ -62,7 +50,7 @@ limit : (c : lts.After-push22 (push-reads.Asked, push-reads.Learnt, push2-reads.
 limit c =
     let s = c .before .before .before .before .before .before .before .before .before .before in
     let m = s .args .m in
-    chain (count-b (c .before .before .before)) (bytes2 (natAbs (m .limit))) (rw (limit-read m (s .pre)) at (c .push22 .ensures)) (omega arith)
+    chain (count-b (c .before .before .before)) (bytes2 (natAbs (m .limit))) (rw (limit-read (m .limit) (s .pre .from-zero, s .pre .to-limit)) at (c .push22 .ensures)) (omega arith)
 
 speed-a : (c : lts.After-push-pair (push-reads.Asked, push-reads.Learnt, push2-reads.Asked, push2-reads.Learnt, push-pair-reads.Asked, push-pair-reads.Learnt, push-outline-reads.Asked, push-outline-reads.Learnt) reads.Pre reads.Post) → Grown (framed []) (countBytes (c .before .before .before .before .before .before .before .before .before .before .before .args .m) ++ bytes2 (natAbs (c .before .before .before .before .before .before .before .before .before .before .before .args .m .limit)) ++ pairBytes (c .before .before .before .before .before .before .before .before .before .before .before .args .m .va)) (c .push-pair .result)
 speed-a c = chain (limit (c .before)) (pairBytes (c .before .before .before .before .before .before .before .before .before .before .before .args .m .va)) (c .push-pair .ensures) (omega arith)
@@ -93,9 +81,7 @@ push-requires-3 c κs = next (count-a (c .before)) 1 (omega arith)
 cast-push2 : tie.Need-cast-push2
 cast-push2 c =
     let s = c .before .before .before .before .before .before .before .before .before in
-    let m = s .args .m in
-    let h = limit-from (m .limit) (s .pre .from-zero) (s .pre .to-limit) in
-    rw (limit-read m (s .pre)) (h .0, record { fits = omega (arith, h .1) })
+    limit-cast (s .args .m .limit) (s .pre .from-zero, s .pre .to-limit)
 
 push2-requires : tie.Need-push2-requires
 push2-requires c κs = next (count-b (c .before .before)) 2 (omega arith)

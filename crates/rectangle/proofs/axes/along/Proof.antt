@@ -4,7 +4,7 @@ use native.Mathlib.Omega.{arith}
 use Rattle.whole.specs.Within.{Within}
 use Rattle.whole.proofs.Bound.{bounds, within}
 use Rattle.whole.proofs.Machine.{sub-fits, round-sub}
-use Rattle.span.proofs.Casts.{limit-read}
+use Rattle.whole.proofs.Casts.{limit-read}
 use Rattle.rectangle.specs.Worked.{along}
 use Rattle.rectangle.proofs.axes.along.Statement.{statement}
 use Rattle.rectangle.proofs.axes.along.Tie as tie

@@ -4,8 +4,7 @@ use Prim.Native.Nat.{ℕ}
 use native.Mathlib.Omega.{arith}
 use lib.IntN.{natAbs}
 use borrow.Author.Needs.{needs}
-use Rattle.whole.proofs.Bound.{bounds, fits}
-use Rattle.span.proofs.Casts.{limit-within, limit-cast, limit-read}
+use Rattle.whole.proofs.Casts.{limit-cast, limit-read}
 use Rattle.rectangle.specs.declared.RectangleMove.{RectangleMove}
 use Rattle.hex.specs.Bytes.{bytes2}
 use Rattle.hex.specs.Frame.{framed}
@@ -52,8 +51,7 @@ push-requires c κs = search needs
 cast-push2 : tie.Need-cast-push2
 cast-push2 c =
     let s = c .before .before .before in
-    let t = limit-within (s .args .m .limit) (s .pre .limited) in
-    limit-cast (s .args .m .limit) (fits (search bounds depth 4) tt) (s .pre .limited)
+    limit-cast (s .args .m .limit) (s .pre .limited)
 
 push2-requires : tie.Need-push2-requires
 push2-requires c κs = next (kind (c .before .before)) 2 (omega arith)

@@ -5,15 +5,12 @@ use native.Mathlib.Omega.{arith}
 use lib.IntN.{natAbs}
 use lib.ListN.{length}
 use borrow.Author.Needs.{needs}
-use mir.Syntax.{w64}
-use mir.Val.{SFits}
-use mir.Facts.{toZ-ofZ}
-use Rattle.whole.proofs.Bound.{bounds, fits}
+use Rattle.whole.proofs.Casts.{limit-read, limit-cast, limit-short}
+use Rattle.span.specs.Lead.{Limited}
 use Rattle.span.specs.Outcome.{spanAt, outcomeIn}
 use Rattle.span.specs.declared.Edition.{Edition}
 use Rattle.span.specs.declared.Span.the-variants.{Between}
 use Rattle.span.proofs.Windows.{ShortSpan}
-use Rattle.span.proofs.Casts.{limit-within, limit-cast, limit-short}
 use Rattle.span.proofs.Leading.{Leading, leading-start, leading-step, leading-empty, leading-end}
 use Rattle.moves.specs.HeldMove.{Fit, moveHeld}
 use Rattle.verdict.specs.Span.{spansIn}
@@ -38,19 +35,19 @@ abbrev μ-loop : tie.MeasureT-loop
 add-n : tie.Need-add-n Inv-loop μ-loop
 add-n c = search needs
 
-limit-fits : (m : HeldMove) → Fit m → SFits w64 (m .limit)
-limit-fits m f = let t = limit-within (m .limit) (f .from-zero, f .to-limit) in fits (search bounds depth 4) tt
+limited : (m : HeldMove) → Fit m → Limited (m .limit)
+limited m f = (f .from-zero, f .to-limit)
 
 cast-t13 : tie.Need-cast-t13 Inv-loop μ-loop
 cast-t13 c =
     let s = c .before .before .before .before .before .before in
-    limit-cast (s .args .m .limit) (limit-fits (s .args .m) (s .pre)) (s .pre .from-zero, s .pre .to-limit)
+    limit-cast (s .args .m .limit) (limited (s .args .m) (s .pre))
 
 loop-holds : tie.Need-loop-holds Inv-loop μ-loop
 loop-holds c =
     let s = c .before .before .before .before .before .before in
     let m = s .args .m in
-    (omega arith, rw (toZ-ofZ (limit-fits m (s .pre))) (leading-start (natAbs (m .limit)) (spansIn (s .args .edition) (moveHeld m)) (limit-short (m .limit) (s .pre .from-zero, s .pre .to-limit))))
+    (omega arith, rw (limit-read (m .limit) (limited m (s .pre))) (leading-start (natAbs (m .limit)) (spansIn (s .args .edition) (moveHeld m)) (limit-short (m .limit) (limited m (s .pre)))))
 
 span-requires : tie.Need-span-requires Inv-loop μ-loop
 span-requires c κs =
@@ -135,7 +132,7 @@ returns-2 c =
     let v = s .args .edition in
     let m = s .args .m in
     c .concluded .ensures ∙ leading-end (natAbs (m .limit)) (spansIn v (moveHeld m)) (spans-made m (s .pre) v) (at .loop .k) (at .loop .first) (at .loop .last) (at .loop .inv .1) (spans-some m (s .pre) v) (omega (arith, sideCount-is m (s .pre), spans-length v (moveHeld m))) v _
-    ∙ ap (λ z. outcomeIn v (natAbs z) (spansIn v (moveHeld m))) (toZ-ofZ (limit-fits m (s .pre)))
+    ∙ ap (λ z. outcomeIn v (natAbs z) (spansIn v (moveHeld m))) (limit-read (m .limit) (limited m (s .pre)))
 
 pub outcome-spec : {M : Type 1} → statement M
 outcome-spec =

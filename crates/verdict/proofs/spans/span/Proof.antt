@@ -3,7 +3,7 @@ use mathlib.Core.Path.{_≡_, sym, _∙_, ap₂, subst}
 use mir.Syntax.{w64}
 use mir.Val.{toZ, ofZ}
 use borrow.Author.Needs.{needs}
-use Rattle.span.proofs.Casts.{limit-read}
+use Rattle.whole.proofs.Casts.{limit-read}
 use Rattle.moves.specs.HeldMove.{Fit}
 use Rattle.moves.specs.declared.HeldMove.{HeldMove}
 use Rattle.verdict.specs.Span.{spanIn}
