@@ -20,11 +20,11 @@ use Rattle.showing.specs.Showing.{cornerInside, edgesMeet, meetingPair, showing
 use Rattle.verdict.specs.Verdict.{verdict}
 use Rattle.moves.specs.Refusal.{refusal, carried}
 use Rattle.verdict.specs.Answer.{answerUnless, answer}
-use Rattle.verdict.specs.Editions.{verdictInside, named, verdictUnless, answerOf}
+use Rattle.verdict.specs.Editions.{verdictInside, verdictUnless, answerOf}
 use Rattle.verdict.specs.Cases.{Case, cases}
 use Rattle.verdict.specs.declared.Answer.{Answer}
 use Rattle.verdict.specs.declared.editions.EditionAnswer.{EditionAnswer}
 
-pub worked : map {B = Answer × EditionAnswer × EditionAnswer} (λ (c : Case). (answer (c .asked), answerOf First (c .asked), answerOf Second (c .asked))) cases ≡ map (λ (c : Case). (c .answered, named (c .sides) (c .answered), c .second)) cases
+pub worked : map {B = Answer × EditionAnswer × EditionAnswer} (λ (c : Case). (answer (c .asked), answerOf First (c .asked), answerOf Second (c .asked))) cases ≡ map (λ (c : Case). (c .answered, c .first, c .second)) cases
 unfolding lowest every best before same reduced cross dot low high shares touch touches inside meet left badEdge isSound firstThatApplies counted placed sideOf windowAheadIn windowStillIn windowIn spanIn table spansIn cornerInside edgesMeet meetingPair showingOf showing outcomeIn upToEmpty verdict refusal carriedBy carried answerUnless answer verdictInside verdictUnless
 worked = refl

@@ -7,13 +7,15 @@ use Rattle.plane.specs.Point.{point, origin}
 use Rattle.plane.specs.declared.Corner.{Corner}
 use Rattle.outline.specs.Box.{box}
 use Rattle.outline.specs.Star.{star}
+use Rattle.outline.specs.declared.Refusal.{Refusal}
+use Rattle.outline.specs.declared.Refusal.the-variants.{AtEdge}
 use Rattle.moves.specs.Move.{Move}
+use Rattle.verdict.specs.Editions.{named}
 use Rattle.verdict.specs.declared.Bearing.{Bearing}
 use Rattle.verdict.specs.declared.Bearing.the-variants.{Side, None}
 use Rattle.showing.specs.declared.Showing.{Showing}
 use Rattle.showing.specs.declared.Showing.the-variants.{CornerOfA, CornerOfB, Edges}
 use Rattle.verdict.specs.declared.Answer.{Answer}
-use Rattle.outline.specs.declared.Refusal.the-variants.{AtEdge}
 use Rattle.verdict.specs.declared.Answer.the-variants.{ClearByOne, ClearByTwo, Contact, Refused}
 use Rattle.verdict.specs.declared.editions.EditionAnswer.{EditionAnswer}
 use Rattle.verdict.specs.declared.editions.EditionAnswer.the-variants as second
@@ -39,11 +41,16 @@ inside n d p q = second.Inside (time n d) (time p q) 8
 pub record Case : Type 0 where
   pub asked : Move
   pub answered : Answer
-  pub sides : ℕ
+  pub first : EditionAnswer
   pub second : EditionAnswer
 
+-- a verdict of w sides worked, and that of edition 2
 abbrev pub row : Move → Answer → ℕ → EditionAnswer → Case
-row m r w x = record { asked = m; answered = r; sides = w; second = x }
+row m r w x = record { asked = m; answered = r; first = named w r; second = x }
+
+-- a refusal, which is one in both editions
+abbrev pub refused : Move → Refusal → Case
+refused m why = record { asked = m; answered = Refused why; first = second.Refused why; second = second.Refused why }
 
 abbrev pub cases : List Case
 cases =
@@ -70,5 +77,5 @@ cases =
     -- P11
     ∷ row (move (box (minus 5) (minus 1) (pos 5) (pos 1)) (box (minus 1) (minus 5) (pos 1) (pos 5)) origin 0) (contact 0 1 0 1 None (Edges 0 1)) 8 (inside 0 1 0 1)
     -- P12
-    ∷ row (move star (square 0 0) origin 10) (Refused (AtEdge 8 0)) 0 (second.Refused (AtEdge 8 0))
+    ∷ refused (move star (square 0 0) origin 10) (AtEdge 8 0)
     ∷ []
