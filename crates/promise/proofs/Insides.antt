@@ -15,7 +15,7 @@ use Rattle.whole.proofs.Ring.{reps}
 use Rattle.whole.proofs.Order.{cases}
 use Rattle.span.proofs.InnerWindows.{Amid, amid-overlaps}
 use Rattle.span.proofs.InnerOutcomes.{AmidAll}
-use Rattle.plane.specs.Point.{dot, side}
+use Rattle.plane.specs.Point.{dot}
 use Rattle.plane.specs.Motion.{movedAll}
 use Rattle.plane.specs.Interval.{low, high, overlaps}
 use Rattle.plane.specs.declared.Corner.{Corner}

@@ -8,14 +8,14 @@ use Rattle.whole.proofs.Flags.{cond-by}
 use Rattle.whole.specs.Time.{before}
 use Rattle.whole.proofs.Casts.{limit-read}
 use Rattle.span.specs.Outcome.{outcome}
-use Rattle.span.specs.Lead.{Comparable, Limited, later, sooner, concludedIn}
+use Rattle.span.specs.Lead.{Comparable, Limited, concludedIn}
 use Rattle.span.specs.declared.Edition.the-variants.{First}
 use Rattle.span.specs.declared.Lead.{Lead}
 use Rattle.span.specs.declared.Span.{Span}
 use Rattle.span.proofs.Windows.{Good, ShortSpan}
 use Rattle.span.proofs.Outcomes.{first-untimed}
 use Rattle.span.proofs.Pairs.{first-empty, second-empty, both-full}
-use Rattle.rectangle.specs.Worked.{Reaching, ax, bx, by, along}
+use Rattle.rectangle.specs.Worked.{Reaching, ax, bx, along}
 use Rattle.rectangle.specs.declared.Reach.{Reach}
 use Rattle.rectangle.proofs.Reaches.{reaching-ax, reaching-ay, reaching-bx, reaching-by}
 use Rattle.rectangle.proofs.TwoSpans.{two-made}

@@ -7,7 +7,6 @@ use borrow.Author.Needs.{needs}
 use borrow.Author.Tests.{eq-eqb, ne-eqb}
 use Rattle.whole.proofs.Flags.{and-false, and-true}
 use Rattle.rectangle.specs.Rectangle.{moveOfLists}
-use Rattle.rectangle.specs.Refusal.{refusal}
 use Rattle.rectangle.specs.Reading.{readingUnless, readingOf}
 use Rattle.rectangle.proofs.Refusing.{lists-four, lists-move}
 use Rattle.rectangle.proofs.lists.read_lists.Statement.{statement}
