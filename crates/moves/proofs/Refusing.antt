@@ -2,10 +2,10 @@
 use mathlib.Core.Path.{_≡_, refl, sym, ap}
 use mathlib.Core.Bool.{Bool, true, false, cond, _&&_, and-eq-true-iff}
 use native.Mathlib.Omega.{arith}
-use lib.IntN.{ℤ, pos}
+use lib.IntN.{pos}
 use lib.ListN.{length}
-use lib.Signed.{_≤ℤ_, leZ}
-use Rattle.whole.proofs.Linear.{ints}
+use lib.Signed.{leZ}
+use Rattle.whole.proofs.Order.{leZ-yes}
 use Rattle.outline.specs.Sound.{badEdge, isSound}
 use Rattle.outline.specs.Refusal.{firstThatApplies, counted, bothInRange, placed, carriedBy}
 use Rattle.outline.specs.declared.Refusal.the-variants.{None, Plain, AtEdge}
@@ -60,9 +60,6 @@ fit-yes h is e =
       sound-b = sound-yes (cornersHeld (h .b)) (r .sound-b);
       near-va = bothInRange-yes (h .va) (r .inRange-va);
       near-vb = bothInRange-yes (h .vb) (r .inRange-vb);
-      from-zero = test-le (pos 0) (h .limit) (t .0);
-      to-limit = test-le (h .limit) (pos 10000) (t .1);
+      from-zero = leZ-yes (pos 0) (h .limit) (t .0);
+      to-limit = leZ-yes (h .limit) (pos 10000) (t .1);
     }
-  where
-    test-le : (x y : ℤ) → leZ x y ≡ true → x ≤ℤ y
-    test-le x y e = omega ints

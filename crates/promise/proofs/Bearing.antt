@@ -16,7 +16,7 @@ use Rattle.whole.specs.declared.Time.{Time}
 use Rattle.whole.proofs.Ring.{reps, by-ring}
 use Rattle.whole.proofs.Indices.{lowest-yes, lowest-below}
 use Rattle.whole.proofs.Divisors.{gcd-comm, gcd-zero}
-use Rattle.whole.proofs.Fractions.{reduced-same, reduced-reduced, reduced-bound}
+use Rattle.whole.proofs.Fractions.{before-zero, reduced-same, reduced-reduced, reduced-bound}
 use Rattle.plane.specs.Point.{dot}
 use Rattle.plane.specs.Motion.{moved, movedAll}
 use Rattle.plane.specs.Interval.{low, high, touches}
@@ -62,10 +62,6 @@ touches-same D A A′ B B′ la ha lb hb = rw (la, ha, lb, hb)
 zero-before : (t : Time) → t .n ≡ 0 → before (time 0 1) t ≡ false
 unfolding before
 zero-before t e = le-ltb (0 * t .d) (t .n * 1) (omega arith)
-
-before-zero : (t : Time) → before t (time 0 1) ≡ false
-unfolding before
-before-zero t = le-ltb (t .n * 1) (0 * t .d) (omega arith)
 
 zero-n : (n d c : ℕ) → 1 ≤ c → n * c ≡ 0 * d → n ≡ 0
 zero-n n d c h e = let k = mul-le-mul-right n h in omega arith

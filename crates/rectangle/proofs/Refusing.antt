@@ -9,8 +9,9 @@ use native.Mathlib.Omega.{arith}
 use lib.Dec.{eqb}
 use lib.IntN.{ℤ, pos}
 use lib.ListN.{length}
-use lib.Signed.{_≤ℤ_, _<ℤ_, ltZ, leZ}
+use lib.Signed.{_<ℤ_, ltZ, leZ}
 use borrow.Author.Tests.{eq-eqb, ne-eqb, eqb-true}
+use Rattle.whole.proofs.Order.{leZ-yes}
 use Rattle.whole.proofs.Linear.{ints}
 use Rattle.plane.specs.declared.Corner.{Corner}
 use Rattle.outline.specs.Refusal.{firstThatApplies, bothInRange, isNone, numberIn}
@@ -98,11 +99,8 @@ fits-yes m e =
       upright-b = upright-yes (m .b) (p .1) (h .upright-b);
       near-va = bothInRange-yes (m .va) (v .0);
       near-vb = bothInRange-yes (m .vb) (v .1);
-      limited = (test-le (pos 0) (m .limit) (T .0), test-le (m .limit) (pos 10000) (T .1));
+      limited = (leZ-yes (pos 0) (m .limit) (T .0), leZ-yes (m .limit) (pos 10000) (T .1));
     }
-  where
-    test-le : (x y : ℤ) → leZ x y ≡ true → x ≤ℤ y
-    test-le x y e = omega ints
 
 -- ---- what a refusal carries
 pub carried-isNone : (r : ℕ) → isNone (carried r) ≡ eqb r 0

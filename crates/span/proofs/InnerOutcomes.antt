@@ -11,11 +11,11 @@ use native.Mathlib.Omega.{arith}
 use lib.IntN.{ℤ}
 use lib.ListN.{length}
 use lib.Signed.{_<ℤ_}
-use borrow.Author.Tests.{ne-eqb, ltb-true, ltb-false, lt-ltb, le-ltb}
+use borrow.Author.Tests.{ne-eqb, ltb-true, ltb-false, lt-ltb}
 use Rattle.whole.specs.Time.{time, before, Proper, Reduced, lowestTerms}
 use Rattle.whole.specs.declared.Time.{Time}
 use Rattle.whole.proofs.Order.{<-le}
-use Rattle.whole.proofs.Fractions.{before-irrefl, before-asym, before-step, reduced-reduced, lowestTerms-before, before-lowestTerms}
+use Rattle.whole.proofs.Fractions.{before-zero, before-irrefl, before-asym, before-step, reduced-reduced, lowestTerms-before, before-lowestTerms}
 use Rattle.span.specs.Window.{windowIn}
 use Rattle.span.specs.Outcome.{begin, end, spanAt, firstOf, lastOf, firstPlace, lastPlace, parted, outcomeIn}
 use Rattle.span.specs.declared.Edition.the-variants.{Second}
@@ -75,10 +75,6 @@ same-value s t h k = omega (arith, ltb-false (s .n * t .d) (t .n * s .d) h, ltb-
 not-after : (T : ℕ) (t : Time) → before (time T 1) t ≡ false → t .n ≤ T * t .d
 unfolding before
 not-after T t h = omega (arith, ltb-false (T * t .d) (t .n * 1) h)
-
-none-before-zero : (t : Time) → before t (time 0 1) ≡ false
-unfolding before
-none-before-zero t = le-ltb (t .n * 1) (0 * t .d) (omega arith)
 
 module _ (s t : Time) where
   abbrev middle : Time
@@ -224,10 +220,10 @@ module _ (T : ℕ) (l : List Span) (lo hi w : ℕ → ℤ) (some : 1 ≤ length 
       zero-held k h = inner k h .at-zero z
 
       zero-soon : (u : Time) → before first u ≡ true → before (time 0 1) u ≡ true
-      zero-soon u h = le-less (time 0 1) first u (omega arith) (none-before-zero first) h
+      zero-soon u h = le-less (time 0 1) first u (omega arith) (before-zero first) h
 
       zero-late : (u : Time) → before u last ≡ true → ⊥
-      zero-late u h = false≢true (sym (none-before-zero u) ∙ less-le u last (time 0 1) (omega arith) h (subst (λ T. before (time T 1) last ≡ false) z (last-limited T l good a)))
+      zero-late u h = false≢true (sym (before-zero u) ∙ less-le u last (time 0 1) (omega arith) h (subst (λ T. before (time T 1) last ≡ false) z (last-limited T l good a)))
 
     held : parted Second T first last ≡ false → Held T All (λ n d. Unit {0}) × ((u : Time) → Proper u → before first u ≡ true → Held T All (λ n d. before (time n d) u ≡ true)) × ((u : Time) → Proper u → before u last ≡ true → Held T All (λ n d. before u (time n d) ≡ true))
     held e =

@@ -25,7 +25,7 @@ use Rattle.span.specs.declared.Outcome.the-variants.{ByOne, ByTwo, FromT
 use Rattle.span.proofs.Windows.{Good, ShortSpan, short-begin, short-end}
 use Rattle.span.proofs.Firsts.{Full, AllFull, firstPlace-at, lastPlace-at, first-proper, last-proper, in-all}
 
-empty-is : (s : Span) → isEmpty s ≡ true → s ≡ Empty
+pub empty-is : (s : Span) → isEmpty s ≡ true → s ≡ Empty
 empty-is Empty e = refl
 empty-is (Between b e) h = absurd (false≢true h)
 

@@ -15,7 +15,7 @@ use Rattle.span.specs.declared.Span.{Span}
 use Rattle.span.specs.declared.Span.the-variants.{Empty, Between}
 use Rattle.span.specs.declared.Outcome.{Outcome}
 use Rattle.span.specs.declared.Outcome.the-variants.{ByOne, ByTwo, FromTo}
-use Rattle.span.proofs.Outcomes.{emptyPlace-is}
+use Rattle.span.proofs.Outcomes.{empty-is, emptyPlace-is}
 
 abbrev FullBelow : List Span → ℕ → Type 0
 FullBelow l k = (j : ℕ) → j < k → isEmpty (spanAt l j) ≡ false
@@ -41,10 +41,6 @@ unfolding upToEmpty
 up-none [] h = refl
 up-none (Empty ∷ l) h = absurd (false≢true (sym (h 0 (omega arith))))
 up-none (Between b e ∷ l) h = ap (λ x. Between b e ∷ x) (up-none l (λ j i. h (suc j) (omega arith)))
-
-empty-is : (s : Span) → isEmpty s ≡ true → s ≡ Empty
-empty-is Empty e = refl
-empty-is (Between b c) e = absurd (false≢true e)
 
 -- how many spans of n are worked where the outcome is o
 abbrev pub workedFor : ℕ → Outcome → ℕ

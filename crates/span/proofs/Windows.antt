@@ -18,7 +18,7 @@ use Rattle.whole.proofs.Bound.{abs-neg}
 use Rattle.whole.proofs.Ring.{reps, by-ring}
 use Rattle.whole.proofs.Linear.{ints, lin≤, ≤lin, lin≡, ≡lin}
 use Rattle.whole.proofs.Order.{mul-≤}
-use Rattle.whole.proofs.Fractions.{before-irrefl, before-step}
+use Rattle.whole.proofs.Fractions.{before-zero, before-irrefl, before-step}
 use Rattle.span.specs.Window.{misses, beginAhead, endAhead, windowAheadIn, windowStillIn, windowIn, window}
 use Rattle.span.specs.InSpan.{InSpan}
 use Rattle.span.specs.Outcome.{begin, end}
@@ -263,7 +263,7 @@ module _ {v : Edition} where
   windowed-good l (above h) = tt
   windowed-good l (below h) = tt
   windowed-good {T = T} l (always h k) =
-      let limited : before (time T 1) (time 0 1) ≡ false = le-ltb (T * 1) (0 * 1) (omega arith) in
+      let limited = before-zero (time T 1) in
       record { begin-proper = omega arith; end-proper = omega arith; begin-started = inl refl; end-ended = inl refl; begin-limited = limited; end-limited = before-irrefl (time T 1); ordered = limited }
 
 pub window-good : (v : Edition) (lo hi w : ℤ) (T : ℕ) → lo ≤ℤ hi → Good T (windowIn v lo hi w T)

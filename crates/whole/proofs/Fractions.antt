@@ -23,6 +23,10 @@ pub before-asym : (s t : Time) → before s t ≡ true → before t s ≡ false
 unfolding before
 before-asym s t h = le-ltb (t .n * s .d) (s .n * t .d) (omega (arith, ltb-true))
 
+pub before-zero : (t : Time) → before t (time 0 1) ≡ false
+unfolding before
+before-zero t = le-ltb (t .n * 1) (0 * t .d) (omega arith)
+
 -- where t is not before s, nor u before t, u is not before s
 pub before-step : (s t u : Time) → Proper t → before t s ≡ false → before u t ≡ false → before u s ≡ false
 unfolding before

@@ -42,6 +42,9 @@ pub ≤-or-< : (a b : ℤ) → (a ≤ℤ b) ⊎ (b <ℤ a)
     go true e = inl (omega ints)
     go false e = inr (omega ints)
 
+pub leZ-yes : (a b : ℤ) → leZ a b ≡ true → a ≤ℤ b
+leZ-yes a b e = omega ints
+
 pub cases : (a b : ℤ) → (a <ℤ b) ⊎ ((a ≡ b) ⊎ (b <ℤ a))
 cases a b = ⊎-elim (λ h. ⊎-elim (λ k. inr (inl (omega ints))) inl (≤-or-< b a)) (λ h. inr (inr h)) (≤-or-< a b)
 

@@ -1,9 +1,7 @@
 // Whole numbers and the fractions that times are.
 ghost use mathlib.Core.Path.{_≡_};
 ghost use Prim.Native.Nat.{_≤_};
-ghost use lib.Signed.{ltZ};
-ghost use Rattle.whole.specs.Best.{betterOf};
-ghost use Rattle.whole.specs.Ends.{touch};
+ghost use Rattle.whole.specs.Ends.{lesser, greater, touch};
 ghost use Rattle.whole.specs.Time.{Short, gcd, reduced, before};
 
 // The fraction n/d of a unit of time; d is at least 1.
@@ -47,7 +45,7 @@ pub fn before(s: Time, t: Time) -> bool
 
 // The lesser of a and b.
 pub fn lesser(a: i64, b: i64) -> i64
-    ensures { λ r. ⌜ r ≡ betterOf ltZ a b ⌝ }
+    ensures { λ r. ⌜ r ≡ lesser a b ⌝ }
 {
     if b < a {
         return b;
@@ -57,7 +55,7 @@ pub fn lesser(a: i64, b: i64) -> i64
 
 // The greater of a and b.
 pub fn greater(a: i64, b: i64) -> i64
-    ensures { λ r. ⌜ r ≡ betterOf (λ x y. ltZ y x) a b ⌝ }
+    ensures { λ r. ⌜ r ≡ greater a b ⌝ }
 {
     if a < b {
         return b;
