@@ -22,6 +22,7 @@ use Rattle.plane.specs.Motion.{moved, movedAll}
 use Rattle.plane.specs.Edges.{corner, edge}
 use Rattle.plane.specs.Inside.{inside}
 use Rattle.plane.specs.CommonPoint.{CommonPoint, total, weighted}
+use Rattle.plane.specs.Mean.{InsideAt, Mean}
 use Rattle.plane.specs.declared.Corner.{Corner}
 use Rattle.plane.proofs.Products.{corner-same, coords, scaled-cross, dot-scaled}
 use Rattle.plane.proofs.Weights.{weighted-low}
@@ -68,10 +69,6 @@ grown t A = movedAll 0 t origin A
 moved-grown : (t : ℕ) (a : Corner) → moved 0 t origin a ≡ scaled (pos t) a
 moved-grown t a = corner-same (+ℤ-idr (pos t *ℤ a .x)) (+ℤ-idr (pos t *ℤ a .y))
 
--- s/t lies to the right of no edge
-abbrev pub InsideAt : List Corner → ℕ → Corner → Type 0
-InsideAt A t s = (i : ℕ) → i < length A → pos 0 ≤ℤ cross (edge A i) (step (scaled (pos t) (corner A i)) s)
-
 pub inside-at : (A : List Corner) (s : Corner) → (inside A s ≡ true) ↔ InsideAt A 1 s
 inside-at A s = (
   λ e i h. subst (λ p. pos 0 ≤ℤ cross (edge A i) (step p s)) (sym (once (corner A i))) (inside-left A s .0 e i h),
@@ -80,13 +77,6 @@ inside-at A s = (
   where
     once : (p : Corner) → scaled (pos 1) p ≡ p
     once p = corner-same (one-*ℤ (p .x)) (one-*ℤ (p .y))
-
--- s/t is a mean of the corners
-pub record Mean (A : List Corner) (t : ℕ) (s : Corner) : Type 0 where
-  pub ws : List ℕ
-  pub each : length ws ≡ length A
-  pub above-zero : 0 < total ws
-  pub agree : scaled (pos t) (weighted ws A) ≡ scaled (pos (total ws)) s
 
 cross-grown : (A : List Corner) (t : ℕ) (s : Corner) (i : ℕ) → i < length A →
     cross (edge (grown t A) i) (step (corner (grown t A) i) s) ≡ pos t *ℤ cross (edge A i) (step (scaled (pos t) (corner A i)) s)

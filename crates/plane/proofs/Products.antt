@@ -1,8 +1,8 @@
 -- Identities of the two products of steps. Each is an equation between polynomials in the coordinates;
 -- the other files take the products as they stand and argue from these equations alone.
-use mathlib.Core.Path.{_≡_, refl}
+use mathlib.Core.Path.{_≡_, refl, sym}
 use mathlib.Core.List.{List, [], _∷_}
-use lib.IntN.{ℤ, pos, _+ℤ_, _-ℤ_, _*ℤ_, negℤ}
+use lib.IntN.{ℤ, pos, _+ℤ_, _-ℤ_, _*ℤ_, negℤ, +ℤ-idr}
 use Rattle.whole.proofs.Ring.{reps, by-ring}
 use Rattle.plane.specs.Point.{origin, plus, step, scaled, cross, dot, side}
 use Rattle.plane.specs.declared.Corner.{Corner}
@@ -36,6 +36,14 @@ cross-scaled k a b = by-ring (k ∷ coords (a ∷ b ∷ [])) (search reps depth 
 pub scaled-cross : (k : ℤ) (a b : Corner) → cross (scaled k a) b ≡ k *ℤ cross a b
 unfolding cross
 scaled-cross k a b = by-ring (k ∷ coords (a ∷ b ∷ [])) (search reps depth 12) (search reps depth 12) tt
+
+cross-steps : (D o p q : Corner) → cross D (step o q) ≡ cross D (step p q) +ℤ cross D (step o p)
+unfolding cross
+cross-steps D o p q = by-ring (coords (D ∷ o ∷ p ∷ q ∷ [])) (search reps depth 12) (search reps depth 12) tt
+
+-- seen from any point of the line through o along D, a point is as far off it
+pub cross-line : (D o p q : Corner) → cross D (step o p) ≡ pos 0 → cross D (step p q) ≡ cross D (step o q)
+cross-line D o p q h = sym (rw (h, +ℤ-idr) at (cross-steps D o p q))
 
 -- ---- the dot product
 pub dot-plus : (a b c : Corner) → dot a (plus b c) ≡ dot a b +ℤ dot a c

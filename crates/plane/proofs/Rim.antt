@@ -27,7 +27,7 @@ on-line k x y z e hk hx hy hz =
     ≤-antisym z (pos 0) hz (cancel-≤ (pos 0) z y hy (≤lin ρ (search reps depth 12) tt (omega (arith, lin≡ ρ (search reps depth 12) tt e, lin≤ ρ (search reps depth 12) tt (mul-nonneg k x (<-le (pos 0) k hk) hx)))))
 
 -- a product of which one factor is not negative
-factor-pos : (k x y z m : ℤ) → k *ℤ x ≡ y *ℤ z -ℤ pos 0 *ℤ m → pos 0 <ℤ k → pos 0 <ℤ x → pos 0 ≤ℤ z → pos 0 <ℤ y
+pub factor-pos : (k x y z m : ℤ) → k *ℤ x ≡ y *ℤ z -ℤ pos 0 *ℤ m → pos 0 <ℤ k → pos 0 <ℤ x → pos 0 ≤ℤ z → pos 0 <ℤ y
 factor-pos k x y z m e hk hx hz = ⊎-elim (λ h. absurd (no h)) (λ h. h) (≤-or-< y (pos 0))
   where
     no : y ≤ℤ pos 0 → ⊥

@@ -2,9 +2,10 @@
 -- Every corner is the end of an edge, which is all that is used of the order of the corners.
 use mathlib.Core.Path.{_≡_, refl, sym, _∙_, ap, subst}
 use mathlib.Core.Bool.{Bool, true, false, cond}
-use mathlib.Core.Logic.{⊎-elim}
+use mathlib.Core.Logic.{_≢_, ⊎-elim}
 use mathlib.Core.List.{List, [], _∷_}
 use Prim.Native.Nat.{ℕ, zero, suc, _+_, _-_, _≤_, _<_}
+use native.Mathlib.Decide.{decLt}
 use native.Mathlib.Omega.{arith}
 use lib.Dec.{ltb}
 use borrow.Author.Tests.{lt-ltb, le-ltb, ltb-true}
@@ -17,7 +18,7 @@ use Rattle.whole.proofs.Linear.{ints, lin<, lin≡}
 use Rattle.whole.proofs.Order.{mul-pos, ≤-or-<}
 use Rattle.whole.proofs.Members.{mem-at, at-mem}
 use Rattle.plane.specs.Point.{origin, step, cross, dot, side}
-use Rattle.plane.specs.Edges.{corner, next, edge}
+use Rattle.plane.specs.Edges.{corner, next, edge, aside}
 use Rattle.plane.specs.Interval.{low, high}
 use Rattle.plane.specs.declared.Corner.{Corner}
 use Rattle.plane.proofs.Products.{coords, dot-step, side-dot, lagrange-cross}
@@ -26,8 +27,8 @@ use Rattle.plane.proofs.Extreme.{dot-pos}
 
 pub record Wide (A : List Corner) : Type 0 where
   pub some : 1 ≤ length A
-  pub left : (i k : ℕ) → i < length A → k < length A → pos 0 ≤ℤ cross (edge A i) (step (corner A i) (corner A k))
-  pub spread : (i : ℕ) → i < length A → (k : ℕ) × (k < length A) × (pos 0 <ℤ cross (edge A i) (step (corner A i) (corner A k)))
+  pub left : (i k : ℕ) → i < length A → k < length A → pos 0 ≤ℤ aside A i k
+  pub spread : (i : ℕ) → i < length A → (k : ℕ) × (k < length A) × (pos 0 <ℤ aside A i k)
 
 -- the edge i ends at a; what is known of it, for members and from its end
 pub record Into (A : List Corner) (a : Corner) : Type 0 where
@@ -51,6 +52,14 @@ next-below n i h = go (ltb (i + 1) n) refl
     go : (t : Bool) → ltb (i + 1) n ≡ t → cond t (i + 1) 0 < n
     go true e = omega (arith, ltb-true (i + 1) n e)
     go false e = omega arith
+
+-- of more than one number, the one after is another
+pub next-other : (n i : ℕ) → 2 ≤ n → i < n → next n i ≢ i
+next-other n i h l e = go (decLt (i + 1) n)
+  where
+    go : Dec (i + 1 < n) → ⊥
+    go (yes k) = omega (arith, next-inner n i k)
+    go (no k) = omega (arith, next-last n i (omega arith))
 
 pub next-onto : (n j : ℕ) → j < n → (i : ℕ) × (i < n) × (next n i ≡ j)
 next-onto n zero h = (n - 1, omega arith, next-last n (n - 1) (omega arith))

@@ -25,5 +25,8 @@ one-*ℤ a = rw (split a) (simp diff (omega arith))
 pub neg-one-*ℤ : (a : ℤ) → negsuc 0 *ℤ a ≡ negℤ a
 neg-one-*ℤ a = rw (split a) (simp diff (omega arith))
 
+pub sub-self : (a : ℤ) → a -ℤ a ≡ pos 0
+sub-self a = rw (split a) (simp diff (omega arith))
+
 pub sub-zero : (a b : ℤ) → a -ℤ b ≡ pos 0 → a ≡ b
 sub-zero a b = rw (split a, split b) (simp diff (omega arith))
