@@ -8,10 +8,10 @@ use Rattle.whole.specs.Table.{table}
 use Rattle.whole.specs.Time.{before, same, reduced}
 use Rattle.span.specs.Window.{windowAheadIn, windowStillIn, windowIn}
 use Rattle.span.specs.Outcome.{outcomeIn, upToEmpty}
-use Rattle.plane.specs.Point.{cross, dot}
+use Rattle.plane.specs.Point.{cross, dot, isZero}
 use Rattle.plane.specs.Interval.{low, high, shares, touches}
 use Rattle.plane.specs.Inside.{inside, meet}
-use Rattle.outline.specs.Sound.{left, badEdge, isSound}
+use Rattle.outline.specs.Sound.{onOneLine, spoils, offends, badEdge, isSound}
 use Rattle.outline.specs.Refusal.{firstThatApplies, counted, placed, carriedBy}
 use Rattle.verdict.specs.Sides.{sideOf}
 use Rattle.verdict.specs.Span.{spanIn, spansIn}
@@ -30,7 +30,7 @@ use Rattle.lines.specs.Output.{output}
 use Rattle.lines.specs.Examples.{Example, text, examples}
 
 pub printed : map (λ (e : Example). output (e .given)) examples ≡ map (λ (e : Example). e .printed) examples
-unfolding lowest every best before same reduced cross dot low high shares touch touches inside meet left badEdge isSound firstThatApplies counted placed sideOf windowAheadIn windowStillIn windowIn spanIn table spansIn cornerInside edgesMeet meetingPair showingOf showing outcomeIn upToEmpty verdict refusal carriedBy carried answerUnless character digit hex unhex digits cornersIn moveOfFrame answerFrame answerLine refusalOfFrame refusalOfLine moveOfLine answerOfLine finished unfinished linesOf output text flatMap
+unfolding lowest every best before same reduced cross dot low high shares touch touches inside meet isZero onOneLine spoils offends badEdge isSound firstThatApplies counted placed sideOf windowAheadIn windowStillIn windowIn spanIn table spansIn cornerInside edgesMeet meetingPair showingOf showing outcomeIn upToEmpty verdict refusal carriedBy carried answerUnless character digit hex unhex digits cornersIn moveOfFrame answerFrame answerLine refusalOfFrame refusalOfLine moveOfLine answerOfLine finished unfinished linesOf output text flatMap
 printed = refl
 
 pub given : map (λ (e : Example). e .given) examples ≡ map (λ (c : Case). moveLine (c .asked)) cases

@@ -1,21 +1,17 @@
--- What a refusal carries, by its number: 8 and 9 the edge that is named, which offends while no lower one does; the others nothing.
+-- What a refusal carries, by its number: 8 and 9 the edge that the definition names; the others nothing.
 use mathlib.Core.Path.{_≡_, refl, sym, _∙_, ap}
 use mathlib.Core.Logic.{_≢_}
-use mathlib.Core.Bool.{Bool, true, false, not, cond, _&&_, and-eq-true-iff}
-use mathlib.Core.List.{List}
-use Prim.Native.Nat.{ℕ, _<_}
-use native.Mathlib.Decide.{ℕ-discrete, decLt}
+use mathlib.Core.Bool.{Bool, true, false, not, cond, _&&_}
+use Prim.Native.Nat.{ℕ}
+use native.Mathlib.Decide.{ℕ-discrete}
 use native.Mathlib.Omega.{arith}
 use lib.Dec.{eqb}
 use lib.ListN.{length}
 use borrow.Author.Tests.{ne-eqb, eqb-true, eqb-false}
-use Rattle.plane.specs.declared.Corner.{Corner}
-use Rattle.outline.specs.Sound.{GoodEdge, Offends, badEdge, isSound}
+use Rattle.outline.specs.Sound.{Named, badEdge, isSound}
 use Rattle.outline.specs.Refusal.{firstThatApplies, counted, bothInRange, placed, carriedBy, isNone, numberIn}
 use Rattle.outline.specs.declared.Refusal.the-variants.{None, Plain, AtEdge}
-use Rattle.outline.proofs.Ranges.{counted-yes}
 use Rattle.outline.proofs.Soundness.{named-edge}
-use Rattle.outline.proofs.Testing.{sound-no-bad}
 use Rattle.moves.specs.Move.{Move}
 use Rattle.moves.specs.Refusal.{limited, refusal, carried}
 
@@ -61,41 +57,30 @@ module _ (m : Move) where
   pub none-zero : (r : ℕ) → carried r m ≡ None → r ≡ 0
   none-zero r e = sym (carried-number r) ∙ ap numberIn e
 
--- ---- the edge that is named offends, and no lower one does
-unsound-edge : (A : List Corner) → counted (length A) ≡ true → isSound A ≡ false → badEdge A < length A
-unsound-edge A c u = go (decLt (badEdge A) (length A))
-  where
-    go : Dec (badEdge A < length A) → badEdge A < length A
-    go (yes h) = h
-    go (no h) = let n : _≡_ {A = ℕ} 0 1 = ap (λ t. cond t 1 0) (sym u ∙ sound-no-bad A (counted-yes (length A) c .0) (omega arith)) in absurd (omega arith)
-
-eight : (c l v p a b : Bool) → _≡_ {A = ℕ} (cond (not c) 4 (cond (not l) 5 (cond (not v) 6 (cond (not p) 7 (cond (not a) 8 (cond (not b) 9 0)))))) 8 → (c ≡ true) × (a ≡ false)
+-- ---- the edge that is named
+eight : (c l v p a b : Bool) → _≡_ {A = ℕ} (cond (not c) 4 (cond (not l) 5 (cond (not v) 6 (cond (not p) 7 (cond (not a) 8 (cond (not b) 9 0)))))) 8 → a ≡ false
 eight false l v p a b e = absurd (omega arith)
 eight true false v p a b e = absurd (omega arith)
 eight true true false p a b e = absurd (omega arith)
 eight true true true false a b e = absurd (omega arith)
-eight true true true true false b e = (refl, refl)
+eight true true true true false b e = refl
 eight true true true true true false e = absurd (omega arith)
 eight true true true true true true e = absurd (omega arith)
 
-nine : (c l v p a b : Bool) → _≡_ {A = ℕ} (cond (not c) 4 (cond (not l) 5 (cond (not v) 6 (cond (not p) 7 (cond (not a) 8 (cond (not b) 9 0)))))) 9 → (c ≡ true) × (b ≡ false)
+nine : (c l v p a b : Bool) → _≡_ {A = ℕ} (cond (not c) 4 (cond (not l) 5 (cond (not v) 6 (cond (not p) 7 (cond (not a) 8 (cond (not b) 9 0)))))) 9 → b ≡ false
 nine false l v p a b e = absurd (omega arith)
 nine true false v p a b e = absurd (omega arith)
 nine true true false p a b e = absurd (omega arith)
 nine true true true false a b e = absurd (omega arith)
 nine true true true true false b e = absurd (omega arith)
-nine true true true true true false e = (refl, refl)
+nine true true true true true false e = refl
 nine true true true true true true e = absurd (omega arith)
 
 module _ (m : Move) where
-  pub edge-of-a : refusal m ≡ 8 → Offends (m .a) (badEdge (m .a)) × ((i : ℕ) → i < badEdge (m .a) → GoodEdge (m .a) i)
+  pub edge-of-a : refusal m ≡ 8 → Named (m .a) (badEdge (m .a))
   unfolding refusal firstThatApplies
-  edge-of-a e =
-      let k = eight (counted (length (m .a)) && counted (length (m .b))) (limited (m .limit)) (bothInRange (m .va) && bothInRange (m .vb)) (placed (m .a) && placed (m .b)) (isSound (m .a)) (isSound (m .b)) e in
-      named-edge (m .a) (unsound-edge (m .a) (and-eq-true-iff (counted (length (m .a))) (counted (length (m .b))) .0 (k .0) .0) (k .1))
+  edge-of-a e = named-edge (m .a) (eight (counted (length (m .a)) && counted (length (m .b))) (limited (m .limit)) (bothInRange (m .va) && bothInRange (m .vb)) (placed (m .a) && placed (m .b)) (isSound (m .a)) (isSound (m .b)) e)
 
-  pub edge-of-b : refusal m ≡ 9 → Offends (m .b) (badEdge (m .b)) × ((i : ℕ) → i < badEdge (m .b) → GoodEdge (m .b) i)
+  pub edge-of-b : refusal m ≡ 9 → Named (m .b) (badEdge (m .b))
   unfolding refusal firstThatApplies
-  edge-of-b e =
-      let k = nine (counted (length (m .a)) && counted (length (m .b))) (limited (m .limit)) (bothInRange (m .va) && bothInRange (m .vb)) (placed (m .a) && placed (m .b)) (isSound (m .a)) (isSound (m .b)) e in
-      named-edge (m .b) (unsound-edge (m .b) (and-eq-true-iff (counted (length (m .a))) (counted (length (m .b))) .0 (k .0) .1) (k .1))
+  edge-of-b e = named-edge (m .b) (nine (counted (length (m .a)) && counted (length (m .b))) (limited (m .limit)) (bothInRange (m .va) && bothInRange (m .vb)) (placed (m .a) && placed (m .b)) (isSound (m .a)) (isSound (m .b)) e)

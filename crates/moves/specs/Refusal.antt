@@ -39,7 +39,7 @@ refusal m = firstThatApplies (reasons m)
 unfoldable pub refusalOfLists : List ℤ → List ℤ → Corner → Corner → ℤ → ℕ
 refusalOfLists xs ys va vb T = firstThatApplies ((4, not (paired xs && paired ys)) ∷ reasons (moveOfLists xs ys va vb T))
 
--- the refusal of a move with the number r, and what it carries: 9 the lowest bad edge of B, the others what an outline's do
+-- the refusal of a move with the number r, and what it carries: 9 the edge to name of B, the others what an outline's do
 unfoldable pub carried : ℕ → Move → Refusal
 carried r m = cond (eqb r 9) (AtEdge 9 (badEdge (m .b))) (carriedBy r (m .a))
 

@@ -1,22 +1,20 @@
 -- The outline test by its cases: each answer from the outcome of the three tests; and what an outline made from a list is.
-use mathlib.Core.Path.{_≡_, refl, sym, _∙_, ap, subst}
-use mathlib.Core.Bool.{Bool, true, false, not, _&&_, and-eq-true-iff}
+use mathlib.Core.Path.{_≡_, sym, _∙_, ap, subst}
+use mathlib.Core.Bool.{Bool, true, false, _&&_, and-eq-true-iff}
 use mathlib.Core.List.{List}
 use Prim.Native.Nat.{ℕ, _/_, _%_, _≤_, _<_}
 use native.Mathlib.Decide.{decLt}
 use native.Mathlib.Omega.{arith}
-use lib.Dec.{eqb, leb}
+use lib.Dec.{eqb}
 use lib.IntN.{ℤ}
 use lib.ListN.{length}
-use borrow.Author.Tests.{eq-eqb, ne-eqb, eqb-true, le-leb}
-use Rattle.whole.specs.Lowest.{every}
-use Rattle.whole.proofs.Indices.{lowest-bound}
+use borrow.Author.Tests.{eqb-true}
 use Rattle.whole.proofs.Padding.{made-again, padded-take, padded-length, padded-at, padded-past}
 use Rattle.plane.specs.Point.{origin}
 use Rattle.plane.specs.Near.{Near}
 use Rattle.plane.specs.Edges.{corner}
 use Rattle.plane.specs.declared.Corner.{Corner}
-use Rattle.outline.specs.Sound.{left, badEdge, isSound}
+use Rattle.outline.specs.Sound.{badEdge, isSound}
 use Rattle.outline.specs.Coordinates.{cornersOf, paired}
 use Rattle.outline.specs.Refusal.{firstThatApplies, counted, placed, refusalOfOutline, carriedBy}
 use Rattle.outline.specs.Held.{cornersHeld, held, Kept, Held}
@@ -63,20 +61,6 @@ module _ (xs : List ℤ) where
   pub tested-sound : wellCounted xs ≡ true → placed (cornersOf xs) ≡ true → isSound (cornersOf xs) ≡ true → tested xs ≡ record { refusal = None; outline = held (cornersOf xs) }
   unfolding tested refusalOfOutline firstThatApplies carriedBy
   tested-sound e p q = simp (e, p, q)
-
--- ---- soundness, from the lowest bad edge
-module _ (A : List Corner) where
-  pub sound-no-bad : 3 ≤ length A → length A ≤ badEdge A → isSound A ≡ true
-  unfolding isSound badEdge
-  sound-no-bad h k = and-eq-true-iff (leb 3 (length A)) (eqb (badEdge A) (length A)) .1 (le-leb 3 (length A) h, eq-eqb (badEdge A) (length A) (omega (arith, lowest-bound (λ i. not (every (left A i) (length A))) (length A))))
-
-  pub sound-bad : badEdge A < length A → isSound A ≡ false
-  unfolding isSound
-  sound-bad k = go (leb 3 (length A)) (ne-eqb (badEdge A) (length A) (λ e. omega arith))
-    where
-      go : (s : Bool) → eqb (badEdge A) (length A) ≡ false → (s && eqb (badEdge A) (length A)) ≡ false
-      go true e = e
-      go false e = refl
 
 -- ---- the outline that holds A
 near-origin : Near 10000 origin

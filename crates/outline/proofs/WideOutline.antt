@@ -1,42 +1,49 @@
--- A sound outline is wide: an edge's own ends lie on its line, every other corner strictly to its left, and with three corners there is another one.
-use mathlib.Core.Path.{_≡_, _∙_, ap}
+-- A sound outline is wide: no corner lies to the right of an edge, and were none to its left, all would lie on the edge's line, which is one since its ends differ.
+use mathlib.Core.Path.{_≡_, sym, _∙_}
+use mathlib.Core.Bool.{Bool, false, not, false≢true}
 use mathlib.Core.List.{List}
+use mathlib.Core.Logic.{⊎-elim}
 use Prim.Native.Nat.{ℕ, _<_}
-use native.Mathlib.Decide.{ℕ-discrete}
+use native.Mathlib.Decide.{decLt}
 use native.Mathlib.Omega.{arith}
-use lib.IntN.{pos}
+use lib.IntN.{ℤ, pos}
 use lib.ListN.{length}
-use lib.Signed.{_≤ℤ_}
+use lib.Signed.{_≤ℤ_, _<ℤ_}
+use borrow.Author.Tests.{not-true, not-false}
+use Rattle.whole.specs.Lowest.{lowest}
+use Rattle.whole.proofs.Indices.{lowest-yes, lowest-below}
 use Rattle.whole.proofs.Linear.{ints}
-use Rattle.plane.specs.Point.{step, cross}
-use Rattle.plane.specs.Edges.{corner, next, edge}
+use Rattle.whole.proofs.Order.{≤-or-<, cases}
+use Rattle.plane.specs.Point.{isZero}
+use Rattle.plane.specs.Edges.{next, aside}
 use Rattle.plane.specs.declared.Corner.{Corner}
-use Rattle.plane.proofs.Products.{cross-self}
-use Rattle.plane.proofs.Wide.{Wide}
+use Rattle.plane.proofs.Sameness.{zero-yes, zero-true}
+use Rattle.plane.proofs.Wide.{Wide, next-below, next-other}
 use Rattle.outline.specs.Sound.{Sound}
-use Rattle.outline.proofs.Soundness.{third-corner, cross-start}
+use Rattle.outline.proofs.OneLine.{edge-line}
+use Rattle.outline.proofs.Soundness.{sound-three}
+
+above : (z : ℤ) → pos 0 ≤ℤ z → isZero z ≡ false → pos 0 <ℤ z
+above z l e = ⊎-elim (λ b. absurd (omega ints)) (⊎-elim (λ q. absurd (false≢true (sym e ∙ zero-true z q))) (λ a. a)) (cases z (pos 0))
 
 module _ (A : List Corner) (s : Sound A) where
-  sound-left : (i k : ℕ) → i < length A → k < length A → pos 0 ≤ℤ cross (edge A i) (step (corner A i) (corner A k))
-  sound-left i k hi hk = go (ℕ-discrete k i) (ℕ-discrete k (next (length A) i))
+  sound-left : (i k : ℕ) → i < length A → k < length A → pos 0 ≤ℤ aside A i k
+  sound-left i k hi hk = ⊎-elim (λ l. l) (λ r. absurd (s .none-right i k hi hk r)) (≤-or-< (pos 0) (aside A i k))
+
+  sound-spread : (i : ℕ) → i < length A → (k : ℕ) × (k < length A) × (pos 0 <ℤ aside A i k)
+  sound-spread i hi = go (decLt off (length A))
     where
-      at-start : k ≡ i → cross (edge A i) (step (corner A i) (corner A k)) ≡ pos 0
-      at-start e = ap (λ j. cross (edge A i) (step (corner A i) (corner A j))) e ∙ cross-start (edge A i) (corner A i)
+      strays : ℕ → Bool
+      strays k = not (isZero (aside A i k))
 
-      at-end : k ≡ next (length A) i → cross (edge A i) (step (corner A i) (corner A k)) ≡ pos 0
-      at-end e = ap (λ j. cross (edge A i) (step (corner A i) (corner A j))) e ∙ cross-self (edge A i)
+      off : ℕ
+      off = lowest strays (length A)
 
-      go : Dec (k ≡ i) → Dec (k ≡ next (length A) i) → pos 0 ≤ℤ cross (edge A i) (step (corner A i) (corner A k))
-      go (yes p) d = omega (ints, at-start p)
-      go (no p) (yes q) = omega (ints, at-end q)
-      go (no p) (no q) = omega (ints, s .strict i hi k hk p q)
+      go : Dec (off < length A) → (k : ℕ) × (k < length A) × (pos 0 <ℤ aside A i k)
+      go (yes h) = (off, h, above (aside A i off) (sound-left i off hi h) (not-true _ (lowest-yes strays (length A) h)))
+      go (no h) =
+          let many = sound-three A s in
+          absurd (s .not-on-line (edge-line A i (s .differ i (next (length A) i) hi (next-below (length A) i hi) (next-other (length A) i (omega arith) hi)) (λ k hk. zero-yes _ (not-false _ (lowest-below strays (length A) k (omega arith))))))
 
   pub sound-wide : Wide A
-  sound-wide =
-      record {
-        some = omega (arith, s .three);
-        left = sound-left;
-        spread = λ i h.
-            let k = third-corner (length A) i (s .three) h in
-            (k .0, k .1, s .strict i h (k .0) (k .1) (k .2) (k .3));
-      }
+  sound-wide = record { some = omega (arith, sound-three A s); left = sound-left; spread = sound-spread }

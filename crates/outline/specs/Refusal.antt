@@ -4,7 +4,7 @@
 --   inRange z              z is from -10,000 to 10,000
 --   placed A               every coordinate of A is in range
 --   refusalOfOutline xs    4, 7 or 8 of the outline test that is handed the list xs, or 0
---   carriedBy r A          the refusal with the number r of an outline A and what it carries: 8 the lowest bad edge of A, the others nothing
+--   carriedBy r A          the refusal with the number r of an outline A and what it carries: 8 the edge to name of A, the others nothing
 --   isNone, numberIn, valuesIn    whether a refusal is none; its number, 0 for none; its number and the edge that it carries
 use mathlib.Core.Bool.{Bool, true, false, not, cond, _&&_}
 use mathlib.Core.List.{List, [], _∷_}

@@ -1,16 +1,16 @@
 // Outlines: corners in order, counterclockwise, and the test that they are sound.
 ghost use mathlib.Core.Path.{_≡_};
-ghost use mathlib.Core.Bool.{_||_, _&&_};
+ghost use mathlib.Core.Bool.{not, cond, _||_, _&&_};
 ghost use Prim.Native.Nat.{_<_, _≤_, _*_, _/_, _%_};
 ghost use lib.Dec.{eqb};
 ghost use lib.IntN.{pos};
 ghost use lib.ListN.{length};
 ghost use lib.Signed.{ltZ};
 ghost use Rattle.whole.specs.Lowest.{every};
-ghost use Rattle.plane.specs.Point.{step, cross, side};
+ghost use Rattle.plane.specs.Point.{step, turn, side, isZero, isSame};
 ghost use Rattle.plane.specs.Near.{Near};
-ghost use Rattle.plane.specs.Edges.{next, edge};
-ghost use Rattle.outline.specs.Sound.{Sound, left, badEdge};
+ghost use Rattle.plane.specs.Edges.{next, edge, aside};
+ghost use Rattle.outline.specs.Sound.{Sound, offends, badEdge};
 ghost use Rattle.outline.specs.Held.{Kept, Held, cornersHeld, held};
 ghost use Rattle.outline.specs.Coordinates.{cornersOf};
 ghost use Rattle.outline.specs.Refusal.{inRange, bothInRange, placed, counted, isNone, numberIn};
@@ -35,7 +35,7 @@ pub struct OwnSide {
     pub on: Interval,
 }
 
-// A refusal with what it carries: none; one by its number alone; 8 or 9 with the lowest edge that has a corner not strictly to its left.
+// A refusal with what it carries: none; one by its number alone; 8 or 9 with the edge to name.
 pub enum Refusal {
     None,
     Plain(u8),
@@ -70,10 +70,10 @@ pub fn number_of(r: Refusal) -> u8
     }
 }
 
-// Above zero where p lies to the left of the edge from a to b.
+// Above zero where p lies to the left of the line from a to b, below zero where it lies to its right.
 fn turn(a: Corner, b: Corner, p: Corner) -> i64
     requires { ⌜ Near 10000 a × Near 10000 b × Near 10000 p ⌝ }
-    ensures { λ r. ⌜ r ≡ cross (step a b) (step a p) ⌝ }
+    ensures { λ r. ⌜ r ≡ turn a b p ⌝ }
 {
     (b.x - a.x) * (p.y - a.y) - (b.y - a.y) * (p.x - a.x)
 }
@@ -89,24 +89,39 @@ pub fn next(n: usize, i: usize) -> usize
     0
 }
 
-// Whether corner k, which is p, is an end of the edge from corner i, a, to corner j, b, or lies strictly to its left.
-fn is_left(a: Corner, b: Corner, p: Corner, i: usize, j: usize, k: usize) -> bool
-    requires { ⌜ Near 10000 a × Near 10000 b × Near 10000 p ⌝ }
-    ensures { λ r. ⌜ r ≡ (eqb k i || (eqb k j || ltZ (pos 0) (cross (step a b) (step a p)))) ⌝ }
+// Whether p and q are one point.
+fn is_same(p: Corner, q: Corner) -> bool
+    ensures { λ r. ⌜ r ≡ isSame p q ⌝ }
 {
-    if k == i {
-        return true;
+    if p.x != q.x {
+        return false;
     }
-    if k == j {
-        return true;
-    }
-    0 < turn(a, b, p)
+    p.y == q.y
 }
 
-// Whether every corner other than the two ends of edge i lies strictly to its left.
-fn is_edge_sound(o: Outline, i: usize) -> bool
+// Whether corner k, which is p, lies to the right of the line of the edge from corner i, a, to corner j, b, or is another corner
+// than its start and equals it. Both ends are on the line; so is a corner that equals the start.
+fn spoils(a: Corner, b: Corner, p: Corner, i: usize, j: usize, k: usize) -> bool
+    requires { ⌜ Near 10000 a × Near 10000 b × Near 10000 p ⌝ }
+    ensures { λ r. ⌜ r ≡ (not (eqb k i) && cond (eqb k j) (isSame a b) (ltZ (turn a b p) (pos 0) || isSame a p)) ⌝ }
+{
+    if k == i {
+        return false;
+    }
+    if k == j {
+        return is_same(a, b);
+    }
+    let t = turn(a, b, p);
+    if t != 0 {
+        return t < 0;
+    }
+    is_same(a, p)
+}
+
+// Whether some corner spoils edge i.
+fn offends(o: Outline, i: usize) -> bool
     requires { ⌜ Held o × (i < o .count) ⌝ }
-    ensures { λ r. ⌜ r ≡ every (left (cornersHeld o) i) (o .count) ⌝ }
+    ensures { λ r. ⌜ r ≡ offends (cornersHeld o) i ⌝ }
 {
     let n = o.count;
     let j = next(n, i);
@@ -115,7 +130,26 @@ fn is_edge_sound(o: Outline, i: usize) -> bool
     let mut k: usize = 0;
     while k < n {
         let p = o.corners[k];
-        if !is_left(a, b, p, i, j, k) {
+        if spoils(a, b, p, i, j, k) {
+            return true;
+        }
+        k += 1;
+    }
+    false
+}
+
+// Whether all corners lie on the line of edge 0; its two ends do.
+fn is_flat(o: Outline) -> bool
+    requires { ⌜ Held o ⌝ }
+    ensures { λ r. ⌜ r ≡ every (λ k. isZero (aside (cornersHeld o) 0 k)) (o .count) ⌝ }
+{
+    let n = o.count;
+    let a = o.corners[0];
+    let b = o.corners[1];
+    let mut k: usize = 2;
+    while k < n {
+        let p = o.corners[k];
+        if turn(a, b, p) != 0 {
             return false;
         }
         k += 1;
@@ -123,15 +157,19 @@ fn is_edge_sound(o: Outline, i: usize) -> bool
     true
 }
 
-// The lowest edge that has a corner not strictly to its left, or the count of edges where there is none.
+// The edge to name: 0 where all corners are on one line, else the lowest that offends, or the count of edges where none is to be named.
+// Corners on the line of edge 0 are on one line unless its ends are one point, and then edge 0 offends: it is named either way.
 pub fn bad_edge(o: Outline) -> usize
     requires { ⌜ Held o ⌝ }
     ensures { λ r. ⌜ r ≡ badEdge (cornersHeld o) ⌝ }
 {
+    if is_flat(o) {
+        return 0;
+    }
     let n = o.count;
     let mut edge: usize = 0;
     while edge < n {
-        if !is_edge_sound(o, edge) {
+        if offends(o, edge) {
             return edge;
         }
         edge += 1;

@@ -18,6 +18,7 @@ use Rattle.outline.specs.Sound.{Sound}
 use Rattle.outline.specs.Refusal.{inRange, bothInRange}
 use Rattle.outline.specs.Refusal as outline
 use Rattle.outline.proofs.Soundness.{sound-true}
+use Rattle.outline.proofs.Strictness.{strict-sound}
 use Rattle.moves.specs.Refusal as moves
 use Rattle.moves.proofs.Accepted.{accepted-true}
 use Rattle.rectangle.specs.Rectangle.{corners, fourCorners}
@@ -55,7 +56,7 @@ module _ (lx ly hx hy : ℤ) where
   area (suc (suc (suc (suc i)))) k h l n e = absurd (omega arith)
 
   box-sound : lx <ℤ hx → ly <ℤ hy → Sound A
-  box-sound p q = record { three = omega arith; strict = λ i h k l n e. subst (λ z. pos 0 <ℤ z) (sym (area i k h l n e)) (mul-pos (hx -ℤ lx) (hy -ℤ ly) (pos-sub lx hx p) (pos-sub ly hy q)) }
+  box-sound p q = strict-sound A (record { three = omega arith; strict = λ i h k l n e. subst (λ z. pos 0 <ℤ z) (sym (area i k h l n e)) (mul-pos (hx -ℤ lx) (hy -ℤ ly) (pos-sub lx hx p) (pos-sub ly hy q)) })
 
 box-placed : (r : Rectangle) → placed r ≡ true → outline.placed (corners r) ≡ true
 unfolding outline.placed every lowest lowestFrom

@@ -9,10 +9,10 @@ use Rattle.whole.specs.Table.{table}
 use Rattle.span.specs.Window.{windowAheadIn, windowStillIn, windowIn}
 use Rattle.span.specs.Outcome.{outcomeIn, upToEmpty}
 use Rattle.span.specs.declared.Edition.the-variants.{First, Second}
-use Rattle.plane.specs.Point.{cross, dot}
+use Rattle.plane.specs.Point.{cross, dot, isZero}
 use Rattle.plane.specs.Interval.{low, high, shares, touches}
 use Rattle.plane.specs.Inside.{inside, meet}
-use Rattle.outline.specs.Sound.{left, badEdge, isSound}
+use Rattle.outline.specs.Sound.{onOneLine, spoils, offends, badEdge, isSound}
 use Rattle.outline.specs.Refusal.{firstThatApplies, counted, placed, carriedBy}
 use Rattle.verdict.specs.Sides.{sideOf}
 use Rattle.verdict.specs.Span.{spanIn, spansIn}
@@ -26,5 +26,5 @@ use Rattle.verdict.specs.declared.Answer.{Answer}
 use Rattle.verdict.specs.declared.editions.EditionAnswer.{EditionAnswer}
 
 pub worked : map {B = Answer × EditionAnswer × EditionAnswer} (λ (c : Case). (answer (c .asked), answerOf First (c .asked), answerOf Second (c .asked))) cases ≡ map (λ (c : Case). (c .answered, c .first, c .second)) cases
-unfolding lowest every best before same reduced cross dot low high shares touch touches inside meet left badEdge isSound firstThatApplies counted placed sideOf windowAheadIn windowStillIn windowIn spanIn table spansIn cornerInside edgesMeet meetingPair showingOf showing outcomeIn upToEmpty verdict refusal carriedBy carried answerUnless answer verdictInside verdictUnless
+unfolding lowest every best before same reduced cross dot low high shares touch touches inside meet isZero onOneLine spoils offends badEdge isSound firstThatApplies counted placed sideOf windowAheadIn windowStillIn windowIn spanIn table spansIn cornerInside edgesMeet meetingPair showingOf showing outcomeIn upToEmpty verdict refusal carriedBy carried answerUnless answer verdictInside verdictUnless
 worked = refl

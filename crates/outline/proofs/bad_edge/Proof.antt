@@ -1,36 +1,44 @@
--- The loop has shown each edge passed to be sound.
-use mathlib.Core.Path.{_≡_, sym, _∙_, ap}
-use mathlib.Core.Bool.{false, not}
+-- Where not all corners lie on the line of edge 0, the loop has shown that no edge passed offends.
+use mathlib.Core.Path.{_≡_, sym, _∙_}
+use mathlib.Core.Bool.{false}
 use Prim.Native.Nat.{ℕ, _≤_, _<_, _-_}
 use native.Mathlib.Omega.{arith}
 use borrow.Author.Needs.{needs}
 use borrow.Author.Count.{below-none, below-more}
-use Rattle.whole.specs.Lowest.{every}
 use Rattle.whole.proofs.Indices.{lowest-is, lowest-none}
-use Rattle.outline.proofs.Places.{held-bad-edge}
-use Rattle.outline.specs.Sound.{left}
+use Rattle.outline.specs.Sound.{offends}
 use Rattle.outline.specs.Held.{cornersHeld}
+use Rattle.outline.proofs.Places.{held-bad-flat, held-bad-lowest}
 use Rattle.outline.proofs.bad_edge.Statement.{statement}
 use Rattle.outline.proofs.bad_edge.Tie as tie
 
 abbrev Inv-loop : tie.InvT-loop
-Inv-loop o n edge₀ edge = (edge ≤ n) × ((m : ℕ) → m < edge → not (every (left (cornersHeld o) m) n) ≡ false)
+Inv-loop o n edge₀ edge = ((m : ℕ) → m < edge → offends (cornersHeld o) m ≡ false) × (edge ≤ n)
 
 abbrev μ-loop : tie.MeasureT-loop
 μ-loop o n edge₀ edge = n - edge
 
-loop-holds : tie.Need-loop-holds Inv-loop μ-loop
-loop-holds c = (omega arith, below-none _)
-
-is-edge-sound-requires : tie.Need-is-edge-sound-requires Inv-loop μ-loop
-is-edge-sound-requires c κs = (c .before .before .pre, c .loop-test .taken)
+is-flat-requires : tie.Need-is-flat-requires Inv-loop μ-loop
+is-flat-requires c κs = c .pre
 
 returns : tie.Need-returns Inv-loop μ-loop
 returns c =
+    let s = c .before .before in
+    sym (held-bad-flat (s .args .o) (s .pre .kept) (sym (c .before .is-flat .ensures) ∙ c .if1 .taken))
+
+loop-holds : tie.Need-loop-holds Inv-loop μ-loop
+loop-holds c = (below-none _, omega arith)
+
+offends-requires : tie.Need-offends-requires Inv-loop μ-loop
+offends-requires c κs = (c .before .before .before .before .pre, c .loop-test .taken)
+
+returns-2 : tie.Need-returns-2 Inv-loop μ-loop
+returns-2 c =
     let at = c .before .before .before in
-    let o = at .before .args .o in
-    sym (held-bad-edge o (at .before .pre .kept) ∙ lowest-is (λ i. not (every (left (cornersHeld o) i) (o .count))) (o .count) (at .loop .edge) (c .before .before .loop-test .taken)
-    (ap not (sym (c .before .is-edge-sound .ensures)) ∙ c .if1 .taken) (at .loop .inv .1))
+    let s = at .before .before .before in
+    let o = s .args .o in
+    sym (held-bad-lowest o (s .pre .kept) (sym (at .before .before .is-flat .ensures) ∙ at .before .if1 .left)
+    ∙ lowest-is (offends (cornersHeld o)) (o .count) (at .loop .edge) (c .before .before .loop-test .taken) (sym (c .before .offends .ensures) ∙ c .if2 .taken) (at .loop .inv .0))
 
 add-edge : tie.Need-add-edge Inv-loop μ-loop
 add-edge c = search needs
@@ -41,13 +49,15 @@ loop-less c = search needs
 loop-again : tie.Need-loop-again Inv-loop μ-loop
 loop-again c =
     let at = c .before .before .before in
-    (omega arith, below-more _ _ (at .loop .inv .1) (ap not (sym (c .before .is-edge-sound .ensures)) ∙ c .if1 .left))
+    (below-more _ _ (at .loop .inv .0) (sym (c .before .offends .ensures) ∙ c .if2 .left), omega arith)
 
-returns-2 : tie.Need-returns-2 Inv-loop μ-loop
-returns-2 c =
+returns-3 : tie.Need-returns-3 Inv-loop μ-loop
+returns-3 c =
     let at = c .before in
-    let o = at .before .args .o in
-    sym (held-bad-edge o (at .before .pre .kept) ∙ lowest-none (λ i. not (every (left (cornersHeld o) i) (o .count))) (o .count) (λ m h. at .loop .inv .1 m (omega arith)))
+    let s = at .before .before .before in
+    let o = s .args .o in
+    sym (held-bad-lowest o (s .pre .kept) (sym (at .before .before .is-flat .ensures) ∙ at .before .if1 .left)
+    ∙ lowest-none (offends (cornersHeld o)) (o .count) (λ m h. at .loop .inv .0 m (omega arith)))
 
 pub bad-edge-spec : {M : Type 1} → statement M
 bad-edge-spec =
@@ -55,10 +65,12 @@ bad-edge-spec =
     (tie.spec
     Inv-loop
     μ-loop
-    loop-holds
-    is-edge-sound-requires
+    is-flat-requires
     returns
+    loop-holds
+    offends-requires
+    returns-2
     add-edge
     loop-less
     loop-again
-    returns-2)
+    returns-3)

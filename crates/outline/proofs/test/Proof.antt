@@ -9,7 +9,8 @@ use Rattle.outline.specs.Refusal.{placed}
 use Rattle.outline.specs.Sound.{badEdge}
 use Rattle.outline.specs.Tested.{refusedAs}
 use Rattle.outline.specs.declared.Refusal.the-variants.{None, AtEdge}
-use Rattle.outline.proofs.Testing.{wellCounted, wellCounted-is, wellCounted-yes, wellCounted-short, tested-count, tested-place, tested-unsound, tested-sound, sound-no-bad, sound-bad, made-kept, made-count, made-corners, made-held}
+use Rattle.outline.proofs.Naming.{sound-no-bad, sound-bad}
+use Rattle.outline.proofs.Testing.{wellCounted, wellCounted-is, wellCounted-yes, wellCounted-short, tested-count, tested-place, tested-unsound, tested-sound, made-kept, made-count, made-corners, made-held}
 use Rattle.outline.proofs.test.Statement.{statement}
 use Rattle.outline.proofs.test.Tie as tie
 use Rattle.outline.proofs.test.Reads as reads

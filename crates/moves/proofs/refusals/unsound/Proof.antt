@@ -1,17 +1,14 @@
--- An outline is sound exactly where its lowest bad edge is past the last.
+-- An outline is sound exactly where the edge to name is past the last.
 use mathlib.Core.Path.{_≡_, refl, sym, _∙_, ap, subst₂}
-use mathlib.Core.Bool.{true, false, not}
+use mathlib.Core.Bool.{true, false}
 use Prim.Native.Nat.{ℕ, _≤_, _<_}
 use native.Mathlib.Omega.{arith}
-use lib.ListN.{length}
-use Rattle.whole.specs.Lowest.{every}
-use Rattle.whole.proofs.Indices.{lowest-bound}
-use Rattle.outline.specs.Sound.{left, badEdge, isSound}
+use Rattle.outline.specs.Sound.{badEdge, isSound}
 use Rattle.outline.specs.Held.{cornersHeld, Held}
 use Rattle.outline.specs.declared.Outline.{Outline}
 use Rattle.outline.specs.declared.Refusal.the-variants.{AtEdge}
 use Rattle.outline.proofs.Places.{held-length}
-use Rattle.outline.proofs.Testing.{sound-bad, sound-no-bad}
+use Rattle.outline.proofs.Naming.{bad-bound, sound-bad, sound-no-bad}
 use borrow.Author.Needs.{needs}
 use Rattle.moves.proofs.refusals.unsound.Statement.{statement}
 use Rattle.moves.proofs.refusals.unsound.Tie as tie
@@ -20,8 +17,7 @@ bad : (o : Outline) → Held o → {e : ℕ} → e ≡ badEdge (cornersHeld o) �
 bad o h p k = sound-bad (cornersHeld o) (subst₂ _<_ p (sym (held-length o (h .kept))) k)
 
 few : (o : Outline) → Held o → {e : ℕ} → e ≡ badEdge (cornersHeld o) → e ≤ 16
-unfolding badEdge
-few o h p = omega (arith, p, lowest-bound (λ i. not (every (left (cornersHeld o) i) (length (cornersHeld o)))) (length (cornersHeld o)), held-length o (h .kept), h .kept .count)
+few o h p = omega (arith, p, bad-bound (cornersHeld o), held-length o (h .kept), h .kept .count)
 
 good : (o : Outline) → Held o → 3 ≤ o .count → {e : ℕ} → e ≡ badEdge (cornersHeld o) → o .count ≤ e → isSound (cornersHeld o) ≡ true
 good o h t p k =

@@ -1,20 +1,19 @@
--- The loop has shown each corner passed to be an end of the edge or strictly to its left.
-use mathlib.Core.Path.{_≡_, sym, _∙_}
-use mathlib.Core.Bool.{true}
+-- The loop has shown that no corner passed spoils the edge.
+use mathlib.Core.Path.{_≡_, sym, _∙_, ap}
+use mathlib.Core.Bool.{true, false, not}
 use Prim.Native.Nat.{ℕ, _≤_, _<_, _-_}
 use native.Mathlib.Omega.{arith}
 use borrow.Author.Needs.{needs}
 use borrow.Author.Count.{below-none, below-more}
-use borrow.Author.Tests.{not-true, not-false}
 use Rattle.whole.proofs.Indices.{every-true, every-false}
-use Rattle.outline.proofs.Places.{held-left}
-use Rattle.outline.specs.Sound.{left}
+use Rattle.outline.specs.Sound.{spoils}
 use Rattle.outline.specs.Held.{cornersHeld}
-use Rattle.outline.proofs.is_edge_sound.Statement.{statement}
-use Rattle.outline.proofs.is_edge_sound.Tie as tie
+use Rattle.outline.proofs.Places.{held-spoils, held-offends}
+use Rattle.outline.proofs.offends.Statement.{statement}
+use Rattle.outline.proofs.offends.Tie as tie
 
 abbrev Inv-loop : tie.InvT-loop
-Inv-loop i o n j a b k₀ k = (k ≤ n) × ((m : ℕ) → m < k → left (cornersHeld o) i m ≡ true)
+Inv-loop i o n j a b k₀ k = (k ≤ n) × ((m : ℕ) → m < k → not (spoils (cornersHeld o) i m) ≡ true)
 
 abbrev μ-loop : tie.MeasureT-loop
 μ-loop i o n j a b k₀ k = n - k
@@ -43,8 +42,8 @@ mul-p c = search needs
 element-copy-out-p : tie.Need-element-copy-out-p Inv-loop μ-loop
 element-copy-out-p c = search needs
 
-is-left-requires : tie.Need-is-left-requires Inv-loop μ-loop
-is-left-requires c κs =
+spoils-requires : tie.Need-spoils-requires Inv-loop μ-loop
+spoils-requires c κs =
     let s = c .before .before .before .before .before .before in
     let near = s .pre .0 .near in
     (near (s .args .i), near (c .before .before .before .before .before .next .result), near (c .before .before .loop .k))
@@ -54,9 +53,9 @@ returns c =
     let s = c .before .before .before .before .before .before .before .before in
     let at = c .before .before .before in
     let o = s .args .t1 in
-    let told = sym (c .before .is-left .ensures) ∙ not-true _ (c .if1 .taken) in
-    sym (every-false (left (cornersHeld o) (s .args .i)) (o .count) (at .before .loop .k) (at .loop-test .taken)
-    (held-left o (s .pre .0 .kept) (s .args .i) (at .before .loop .k) (s .pre .1) (at .loop-test .taken) ∙ rw (← c .before .before .before .before .before .before .before .next .ensures .0) told))
+    let told = sym (c .before .spoils .ensures) ∙ c .if1 .taken in
+    let is : spoils (cornersHeld o) (s .args .i) (at .before .loop .k) ≡ true = held-spoils o (s .pre .0 .kept) (s .args .i) (at .before .loop .k) (s .pre .1) (at .loop-test .taken) ∙ rw (← c .before .before .before .before .before .before .before .next .ensures .0) told in
+    sym (held-offends o (s .pre .0 .kept) (s .args .i) ∙ ap not (every-false (λ k. not (spoils (cornersHeld o) (s .args .i) k)) (o .count) (at .before .loop .k) (at .loop-test .taken) (ap not is)))
 
 add-k : tie.Need-add-k Inv-loop μ-loop
 add-k c = search needs
@@ -69,20 +68,19 @@ loop-again c =
     let s = c .before .before .before .before .before .before .before .before in
     let at = c .before .before .before in
     let o = s .args .t1 in
-    let told = sym (c .before .is-left .ensures) ∙ not-false _ (c .if1 .left) in (
-      omega arith,
-      below-more _ _ (at .before .loop .inv .1)
-          (held-left o (s .pre .0 .kept) (s .args .i) (at .before .loop .k) (s .pre .1) (at .loop-test .taken) ∙ rw (← c .before .before .before .before .before .before .before .next .ensures .0) told),
-    )
+    let told = sym (c .before .spoils .ensures) ∙ c .if1 .left in
+    let is : spoils (cornersHeld o) (s .args .i) (at .before .loop .k) ≡ false = held-spoils o (s .pre .0 .kept) (s .args .i) (at .before .loop .k) (s .pre .1) (at .loop-test .taken) ∙ rw (← c .before .before .before .before .before .before .before .next .ensures .0) told in
+    (omega arith, below-more _ _ (at .before .loop .inv .1) (ap not is))
 
 returns-2 : tie.Need-returns-2 Inv-loop μ-loop
 returns-2 c =
     let s = c .before .before .before .before .before in
-    let end : c .before .loop .k ≡ s .args .t1 .count = omega arith in
-    sym (every-true (left (cornersHeld (s .args .t1)) (s .args .i)) (s .args .t1 .count) (λ m h. c .before .loop .inv .1 m (omega arith)))
+    let o = s .args .t1 in
+    let end : c .before .loop .k ≡ o .count = omega arith in
+    sym (held-offends o (s .pre .0 .kept) (s .args .i) ∙ ap not (every-true (λ k. not (spoils (cornersHeld o) (s .args .i) k)) (o .count) (λ m h. c .before .loop .inv .1 m (omega arith))))
 
-pub is-edge-sound-spec : {M : Type 1} → statement M
-is-edge-sound-spec =
+pub offends-spec : {M : Type 1} → statement M
+offends-spec =
     tie.close
     (tie.spec
     Inv-loop
@@ -95,7 +93,7 @@ is-edge-sound-spec =
     loop-holds
     mul-p
     element-copy-out-p
-    is-left-requires
+    spoils-requires
     returns
     add-k
     loop-less
