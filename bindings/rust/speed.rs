@@ -23,6 +23,9 @@ mod rectangle;
 #[path = "../../independent/src/stops.rs"]
 mod stops;
 #[allow(dead_code)]
+#[path = "../../independent/src/straight.rs"]
+mod straight;
+#[allow(dead_code)]
 #[path = "../../independent/src/trays.rs"]
 mod trays;
 

@@ -29,15 +29,18 @@ mod runs;
 #[allow(dead_code)]
 #[path = "../../independent/src/stops.rs"]
 mod stops;
+#[allow(dead_code)]
+#[path = "../../independent/src/straight.rs"]
+mod straight;
 mod tests_editions;
 mod tests_rectangles;
 #[allow(dead_code)]
 #[path = "../../independent/src/trays.rs"]
 mod trays;
 
-use checker::{lowest_bad_edge, point, verdict, Point, Verdict};
-use generate::{Rng, Set, AT_ZERO, BAD_EDGES, BASE};
-use runs::{Log, LOG, LOG_BAD_EDGES};
+use checker::{edge_named, point, verdict, Point, Verdict};
+use generate::{Rng, Set, AT_ZERO, BAD_EDGES, BASE, STRAIGHT_CORNERS};
+use runs::{Log, LOG, LOG_BAD_EDGES, LOG_STRAIGHT_CORNERS};
 use std::cell::Cell;
 use stonefruitle::linked::*;
 use stonefruitle::*;
@@ -45,7 +48,7 @@ use stonefruitle::*;
 const SEED: u64 = 20_261;
 const COUNT: u64 = 50_000;
 
-/// So many logs, of request Q-3 fewer, and so many lines of each.
+/// So many logs, of requests fewer, and so many lines of each.
 const LOGS: u64 = 2_000;
 const BAD_LOGS: u64 = 500;
 const LINES: usize = 50;
@@ -468,10 +471,10 @@ fn expected(m: &Lists) -> Result<checker::Move, frame::Refusal> {
     if !m.a.iter().chain(&m.b).all(|n| in_range(*n)) {
         return Err(frame::Refusal::Place);
     }
-    if let Some(edge) = lowest_bad_edge(&corners(&m.a)) {
+    if let Some(edge) = edge_named(&corners(&m.a)) {
         return Err(frame::Refusal::First(edge));
     }
-    if let Some(edge) = lowest_bad_edge(&corners(&m.b)) {
+    if let Some(edge) = edge_named(&corners(&m.b)) {
         return Err(frame::Refusal::Second(edge));
     }
     Ok(checker::Move {
@@ -489,7 +492,7 @@ fn expected_of_outline(list: &[i64]) -> Option<Refusal> {
     } else if !list.iter().all(|n| in_range(*n)) {
         Some(Refusal::Place)
     } else {
-        lowest_bad_edge(&corners(list)).map(|edge| Refusal::First(edge as u8))
+        edge_named(&corners(list)).map(|edge| Refusal::First(edge as u8))
     }
 }
 
@@ -615,12 +618,20 @@ fn random_lines_at_zero() {
     assert_eq!(check_lines(AT_ZERO)[0], COUNT);
 }
 
-/// Lines of the classes of request Q-3, which are all refused with an edge.
+/// Lines of the classes of request Q-3, which are refused with an edge, but for some with straight corners.
 #[test]
 fn random_lines_with_a_bad_edge() {
     let counts = check_lines(BAD_EDGES);
-    assert!(counts[8] > 0 && counts[9] > 0);
-    assert_eq!(counts[8] + counts[9], COUNT);
+    assert!([0, 8, 9].iter().all(|r| counts[*r] > 0), "{counts:?}");
+    assert_eq!(counts[0] + counts[8] + counts[9], COUNT);
+}
+
+/// Lines of the classes of request Q-8: accepted with straight corners, or refused with an edge.
+#[test]
+fn random_lines_with_straight_corners() {
+    let counts = check_lines(STRAIGHT_CORNERS);
+    assert!([0, 8, 9].iter().all(|r| counts[*r] > 0), "{counts:?}");
+    assert_eq!(counts[0] + counts[8] + counts[9], COUNT);
 }
 
 /// Lists of a set of classes, none of them refused, with something changed: what no line can say is here, as an odd length
@@ -653,6 +664,11 @@ fn random_lists() {
 #[test]
 fn random_lists_at_zero() {
     check_changed_lists(AT_ZERO);
+}
+
+#[test]
+fn random_lists_with_straight_corners() {
+    check_changed_lists(&STRAIGHT_CORNERS[..4]);
 }
 
 fn any_number(rng: &mut Rng) -> i64 {
@@ -816,6 +832,13 @@ fn random_logs() {
         counts[0] > 0 && counts[2..].iter().all(|n| *n > 0),
         "a refusal did not come up: {counts:?}"
     );
+}
+
+/// Logs of request Q-8, in which lines with straight corners move the kept number.
+#[test]
+fn random_logs_with_straight_corners() {
+    let counts = check_logs(LOG_STRAIGHT_CORNERS, BAD_LOGS);
+    assert!([0, 8, 9, 10].iter().all(|r| counts[*r] > 0), "{counts:?}");
 }
 
 /// Logs of request Q-3, most of whose lines are refused with an edge.
@@ -1013,7 +1036,7 @@ fn refusal_lines() {
         ("81ff06", Refusal::Speed),
         ("81ff07", Refusal::Place),
         ("81ff0800", Refusal::First(0)),
-        ("81ff080e", Refusal::First(14)),
+        ("81ff080f", Refusal::First(15)),
         ("81ff0901", Refusal::Second(1)),
         ("81ff0a", Refusal::Order),
     ];
@@ -1023,6 +1046,58 @@ fn refusal_lines() {
         assert_eq!(line[4..6], format!("{:02x}", refusal.number()));
         assert_eq!(refusal.to_string().contains("edge"), line.len() == 8);
     }
+}
+
+// ---------------------------------------------------------------------------
+// Straight corners
+
+/// The outlines of request Q-8, and what they are taken for.
+#[test]
+fn straight_corners() {
+    let edge = |list: &[i64]| match test_outline(list) {
+        Ok(()) => None,
+        Err(Refusal::First(edge)) => Some(edge),
+        Err(other) => panic!("{list:?}: {other}"),
+    };
+    assert_eq!(edge(&[0, 0, 1, 0, 2, 0, 0, 2]), None);
+    assert_eq!(edge(&STAR), Some(0));
+    // Out of order along an edge, begun at each corner: that edge alone is wrong, the last one too.
+    let mut corners = vec![0, 0, 2, 0, 1, 0, 3, 0, 0, 3];
+    for back in [1, 0, 4, 3, 2] {
+        assert_eq!(edge(&corners), Some(back), "{corners:?}");
+        corners.rotate_left(2);
+    }
+    // A corner twice, beside and apart: the lower edge that starts there, whatever follows.
+    assert_eq!(edge(&[0, 0, 2, 0, 2, 0, 0, 2]), Some(1));
+    assert_eq!(edge(&[0, 0, 2, 0, 0, 2, 0, 0]), Some(0));
+    assert_eq!(edge(&[0, 0, 2, 0, 2, 2, 0, 2, 2, 0]), Some(1));
+    assert_eq!(edge(&[0, 0, 2, 0, 2, 2, 0, 2, 2, 2, 1, 3]), Some(2));
+    // All on one line, and at one place.
+    assert_eq!(edge(&[0, 0, 1, 0, 2, 0]), Some(0));
+    assert_eq!(edge(&[4, 2, 0, 0, 2, 1, 6, 3, 2, 1]), Some(0));
+    assert_eq!(edge(&[10_000; 32]), Some(0));
+    // Twice round, where no corner is to the right of an edge.
+    assert_eq!(edge(&[S, S].concat()), Some(0));
+}
+
+/// Sixteen corners of a triangle, begun at each: all are sound, and with two of them exchanged along an edge each edge is named.
+#[test]
+fn sixteen_corners_of_a_triangle() {
+    let mut corners: Vec<i64> = vec![
+        0, 0, 2, 0, 4, 0, 6, 0, 8, 0, 10, 0, 8, 2, 6, 4, 4, 6, 2, 8, 0, 10, 0, 8, 0, 6, 0, 4, 0, 2,
+        0, 1,
+    ];
+    let mut exchanged = corners.clone();
+    exchanged[2..6].rotate_left(2);
+    let mut named = Vec::new();
+    for _ in 0..16 {
+        assert_eq!(test_outline(&corners), Ok(()));
+        named.push(test_outline(&exchanged).unwrap_err().edge());
+        corners.rotate_left(2);
+        exchanged.rotate_left(2);
+    }
+    named.sort();
+    assert_eq!(named, (0..16).map(Some).collect::<Vec<_>>());
 }
 
 // ---------------------------------------------------------------------------

@@ -119,25 +119,49 @@ pub fn edge(outline: &[Point], i: usize) -> (Point, Point) {
     (outline[i], outline[(i + 1) % outline.len()])
 }
 
-/// Whether some corner other than the two ends of edge `i` is not strictly to
-/// the left of it.
-pub fn is_bad_edge(outline: &[Point], i: usize) -> bool {
-    let count = outline.len();
+/// Whether the corner is to the right of the line of edge `i`. To the right of
+/// an edge without length there is nothing.
+pub fn is_right_of(outline: &[Point], i: usize, corner: Point) -> bool {
     let (start, stop) = edge(outline, i);
-    (0..count)
-        .filter(|&k| k != i && k != (i + 1) % count)
-        .any(|k| stop.minus(start).cross(outline[k].minus(start)) <= 0)
+    stop.minus(start).cross(corner.minus(start)) < 0
 }
 
-/// The lowest such edge, which a refusal names (request Q-3).
-pub fn lowest_bad_edge(outline: &[Point]) -> Option<usize> {
-    (0..outline.len()).find(|&i| is_bad_edge(outline, i))
+/// Whether all corners lie on one line, or at one place.
+pub fn lie_on_one_line(outline: &[Point]) -> bool {
+    let start = outline[0];
+    match outline.iter().find(|corner| **corner != start) {
+        None => true,
+        Some(other) => {
+            let step = other.minus(start);
+            outline.iter().all(|c| step.cross(c.minus(start)) == 0)
+        }
+    }
 }
 
-/// For each edge, every corner other than its two ends is strictly to its
-/// left. Left turns alone would let a star through.
+/// All corners differ, not all lie on one line, and no corner lies to the right
+/// of any edge's line (request Q-8). So corners may stand along an edge, in their
+/// order. Left turns alone would let a star through.
 pub fn is_sound(outline: &[Point]) -> bool {
-    lowest_bad_edge(outline).is_none()
+    let all = 0..outline.len();
+    let differs = |i: usize| all.clone().all(|k| k == i || outline[k] != outline[i]);
+    let is_clear = |i: usize| !outline.iter().any(|c| is_right_of(outline, i, *c));
+    all.clone().all(differs) && !lie_on_one_line(outline) && all.clone().all(is_clear)
+}
+
+/// Whether some corner is to the right of edge `i`, or another corner is at the
+/// place at which it starts.
+pub fn is_bad_edge(outline: &[Point], i: usize) -> bool {
+    let mut all = 0..outline.len();
+    all.any(|k| is_right_of(outline, i, outline[k]) || (k != i && outline[k] == outline[i]))
+}
+
+/// The edge that a refusal names (requests ): edge 0 if all corners
+/// are on one line, else the lowest bad edge. A sound outline has none.
+pub fn edge_named(outline: &[Point]) -> Option<usize> {
+    match lie_on_one_line(outline) {
+        true => Some(0),
+        false => (0..outline.len()).find(|&i| is_bad_edge(outline, i)),
+    }
 }
 
 /// The directions of all sides: A's edges in order, then B's.

@@ -1,6 +1,6 @@
 //! Move lines in, answer lines out. Lines are held here without their 0a.
 
-use super::checker::{lowest_bad_edge, point, verdict, Move, Point, Showing, Verdict};
+use super::checker::{edge_named, point, verdict, Move, Point, Showing, Verdict};
 use super::rectangle::{self, RectangleMove};
 
 /// Why a line is turned away. Refusal 1 is about lent room and cannot arise in
@@ -13,8 +13,8 @@ pub enum Refusal {
     Limit,
     Speed,
     Place,
-    /// With the lowest edge that has a corner not strictly to its left
-    /// (request Q-3), as the next; of a rectangle with 0 (request Q-5).
+    /// With the edge that is wrong (requests ), as the next; of a
+    /// rectangle with 0 (request Q-5).
     First(usize),
     Second(usize),
     /// In a log (request Q-2).
@@ -105,10 +105,10 @@ pub fn read_move(line: &[u8]) -> Result<Move, Refusal> {
 /// Reads a frame whose first byte is 01.
 pub fn read_frame(frame: &[u8]) -> Result<Move, Refusal> {
     let m = read_fields(frame)?;
-    if let Some(edge) = lowest_bad_edge(&m.a) {
+    if let Some(edge) = edge_named(&m.a) {
         return Err(Refusal::First(edge));
     }
-    if let Some(edge) = lowest_bad_edge(&m.b) {
+    if let Some(edge) = edge_named(&m.b) {
         return Err(Refusal::Second(edge));
     }
     Ok(m)

@@ -5,12 +5,11 @@
 //! come in sets, one for document 01 and one for each request after it; a set
 //! stays as it is, so that its lines and answers can be compared for good.
 
-use super::checker::{
-    edge, inside_or_on, interval, is_bad_edge, is_sound, lowest_bad_edge, point, Move, Point,
-};
+use super::checker::{edge, inside_or_on, interval, point, Move, Point};
 use super::frame::{write_move, MOST_DIGITS, REACH};
 use super::rails;
 use super::stops;
+use super::straight;
 
 #[derive(Clone, Copy, Debug, PartialEq, Eq)]
 pub enum Class {
@@ -51,20 +50,21 @@ pub enum Class {
     Parting,
     /// In touch at time zero and moving into or along one another.
     Closing,
-    /// Not sound; edge 0 is the lowest bad one.
+    /// Not strict; edge 0 is the lowest that is not.
     BadFirst,
-    /// Not sound; the lowest bad edge is neither the first nor the last but one.
+    /// Not strict; the lowest edge that is not is neither the first nor the last
+    /// but one.
     BadMiddle,
-    /// Not sound; only the last edge and the one before it are bad. The last is
+    /// Only the last edge and the one before it are not strict. The last is
     /// never the only one: where all corners lie strictly to the left of every
     /// other edge, the outline goes round them in order, and its last edge too
     /// has them to its left.
     BadLast,
-    /// Not sound; more than two edges are bad.
+    /// More than two edges are not strict.
     BadSeveral,
-    /// Neither outline is sound, and their lowest bad edges differ.
+    /// Neither outline is strict, and the lowest edges that are not differ.
     BadBoth,
-    /// Sound corners in clockwise order.
+    /// Strict corners in clockwise order.
     Clockwise,
     /// Two corners at one place.
     Repeated,
@@ -74,6 +74,9 @@ pub enum Class {
     Rail(rails::Class),
     /// One of the classes of stops.rs.
     Stop(stops::Class),
+    /// One of the classes of straight.rs: sound outlines, and others.
+    Drawn(straight::Drawn),
+    Misdrawn(straight::Misdrawn),
 }
 
 /// Classes that take turns, with their names.
@@ -105,7 +108,9 @@ pub const AT_ZERO: Set = &[
     (Class::Closing, "closing"),
 ];
 
-/// Of request Q-3: which edge is wrong. None of these moves is sound.
+/// Of request Q-3: which edge is wrong. They are made by that request's words,
+/// by which every edge has to be strict; by request Q-8 some are accepted, those
+/// with nothing but straight corners, and others name another edge.
 pub const BAD_EDGES: Set = &[
     (Class::BadFirst, "bad-first"),
     (Class::BadMiddle, "bad-middle"),
@@ -150,12 +155,48 @@ pub const STOPS: Set = &[
     (Class::Stop(stops::Class::Nowhere), "stop-nowhere"),
 ];
 
-pub const SETS: [(&str, Set); 5] = [
+/// Of request Q-8: straight corners, and what is taken for them.
+pub const STRAIGHT_CORNERS: Set = &[
+    (Class::Drawn(straight::Drawn::OneEdge), "on-one-edge"),
+    (Class::Drawn(straight::Drawn::AllEdges), "on-all-edges"),
+    (Class::Drawn(straight::Drawn::Sixteen), "sixteen"),
+    (Class::Drawn(straight::Drawn::Both), "on-both"),
+    (Class::Misdrawn(straight::Misdrawn::HairOff), "hair-off"),
+    (
+        Class::Misdrawn(straight::Misdrawn::OutOfOrder),
+        "out-of-order",
+    ),
+    (Class::Misdrawn(straight::Misdrawn::Spike), "spike"),
+    (
+        Class::Misdrawn(straight::Misdrawn::BackTracking),
+        "back-tracking",
+    ),
+    (
+        Class::Misdrawn(straight::Misdrawn::Adjacent),
+        "repeated-beside",
+    ),
+    (Class::Misdrawn(straight::Misdrawn::Apart), "repeated-apart"),
+    (Class::Misdrawn(straight::Misdrawn::OneLine), "on-one-line"),
+    (Class::Misdrawn(straight::Misdrawn::AllEqual), "all-equal"),
+    (Class::Misdrawn(straight::Misdrawn::Star), "star"),
+    (
+        Class::Misdrawn(straight::Misdrawn::TwiceRound),
+        "twice-round",
+    ),
+    (
+        Class::Misdrawn(straight::Misdrawn::Clockwise),
+        "clockwise-drawn",
+    ),
+    (Class::Misdrawn(straight::Misdrawn::TwoFaults), "two-faults"),
+];
+
+pub const SETS: [(&str, Set); 6] = [
     ("base", BASE),
     ("Q-1", AT_ZERO),
     ("Q-3", BAD_EDGES),
     ("Q-6", RAILS),
     ("Q-7", STOPS),
+    ("Q-8", STRAIGHT_CORNERS),
 ];
 
 pub fn set_named(name: &str) -> Option<Set> {
@@ -186,6 +227,7 @@ pub fn line(seed: u64, place: u64, class: Class) -> Vec<u8> {
         Class::Damaged => damaged(&mut rng),
         Class::Unsound => write_move(&unsound(&mut rng)),
         bad if is_of(BAD_EDGES, bad) => write_move(&bad_move(&mut rng, bad)),
+        Class::Misdrawn(class) => write_move(&straight::misdrawn(&mut rng, class)),
         _ => write_move(&sound_move(&mut rng, class)),
     }
 }
@@ -213,6 +255,7 @@ pub fn sound_move(rng: &mut Rng, class: Class) -> Move {
             Class::Closing => closing(rng),
             Class::Rail(class) => rails::attempt(rng, class),
             Class::Stop(class) => stops::attempt(rng, class),
+            Class::Drawn(class) => straight::attempt(rng, class),
             _ => panic!("{class:?} is not a class of sound moves"),
         };
         if let Some(m) = attempt {
@@ -290,21 +333,42 @@ impl Rng {
 // ---------------------------------------------------------------------------
 // Outlines
 
+/// Whether every corner other than the two ends of edge `i` is strictly to its
+/// left. What was sound before request Q-8 had only such edges, and the sets
+/// before it are made by that.
+pub fn is_strict_edge(outline: &[Point], i: usize) -> bool {
+    let count = outline.len();
+    let (start, stop) = edge(outline, i);
+    (0..count)
+        .filter(|&k| k != i && k != (i + 1) % count)
+        .all(|k| stop.minus(start).cross(outline[k].minus(start)) > 0)
+}
+
+pub fn is_strict(outline: &[Point]) -> bool {
+    (0..outline.len()).all(|i| is_strict_edge(outline, i))
+}
+
+/// The edges that are not, in order.
+fn loose_edges(outline: &[Point]) -> Vec<usize> {
+    let is_loose = |i: &usize| !is_strict_edge(outline, *i);
+    (0..outline.len()).filter(is_loose).collect()
+}
+
 pub fn shifted(outline: &[Point], by: Point) -> Vec<Point> {
     outline.iter().map(|corner| corner.plus(by)).collect()
 }
 
-fn enlarged(outline: &[Point], times: i128) -> Vec<Point> {
+pub fn enlarged(outline: &[Point], times: i128) -> Vec<Point> {
     outline.iter().map(|corner| corner.times(times)).collect()
 }
 
-fn turned_half(outline: &[Point]) -> Vec<Point> {
+pub fn turned_half(outline: &[Point]) -> Vec<Point> {
     enlarged(outline, -1)
 }
 
 /// The image under the matrix with columns `u`, `v`. Where their cross
 /// product is above zero a sound outline stays sound.
-fn mapped(outline: &[Point], u: Point, v: Point) -> Vec<Point> {
+pub fn mapped(outline: &[Point], u: Point, v: Point) -> Vec<Point> {
     outline
         .iter()
         .map(|c| u.times(c.x).plus(v.times(c.y)))
@@ -312,7 +376,7 @@ fn mapped(outline: &[Point], u: Point, v: Point) -> Vec<Point> {
 }
 
 /// The lowest and highest coordinates.
-fn bounds(outline: &[Point]) -> (Point, Point) {
+pub fn bounds(outline: &[Point]) -> (Point, Point) {
     let (west, east) = interval(outline, point(1, 0));
     let (south, north) = interval(outline, point(0, 1));
     (point(west, south), point(east, north))
@@ -366,13 +430,13 @@ fn edges_in_order(rng: &mut Rng, count: usize, size: i128) -> Vec<Point> {
     walked(&steps)
 }
 
-/// A sound outline with exactly `count` corners, about the origin, some
+/// A strict outline with exactly `count` corners, about the origin, some
 /// `size` across. Where so many corners find no room, the size grows.
 pub fn outline(rng: &mut Rng, count: usize, size: i128) -> Vec<Point> {
     let mut size = size;
     for attempt in 1.. {
         let mut corners = edges_in_order(rng, count, size);
-        if is_sound(&corners) {
+        if is_strict(&corners) {
             let turn = rng.index(count);
             corners.rotate_left(turn);
             let (low, high) = bounds(&corners);
@@ -401,7 +465,7 @@ fn partner(rng: &mut Rng, a: &[Point], size: i128) -> Vec<Point> {
 }
 
 /// A corner farthest in a direction; if there are two, either.
-fn farthest(rng: &mut Rng, outline: &[Point], direction: Point) -> Point {
+pub fn farthest(rng: &mut Rng, outline: &[Point], direction: Point) -> Point {
     let (_, most) = interval(outline, direction);
     let corners: Vec<Point> = outline
         .iter()
@@ -411,7 +475,7 @@ fn farthest(rng: &mut Rng, outline: &[Point], direction: Point) -> Point {
     rng.pick(&corners)
 }
 
-fn gcd(a: i128, b: i128) -> i128 {
+pub fn gcd(a: i128, b: i128) -> i128 {
     if b == 0 {
         a.abs()
     } else {
@@ -740,7 +804,7 @@ fn near_tie(rng: &mut Rng) -> Option<Move> {
     let (x, y) = if x.cross(y) > 0 { (x, y) } else { (y, x) };
     let mut b = vec![tip, tip.plus(x), tip.plus(y)];
 
-    if !is_sound(&a) || !is_sound(&b) {
+    if !is_strict(&a) || !is_strict(&b) {
         return None;
     }
     let (turn_a, turn_b) = (rng.index(3), rng.index(3));
@@ -901,7 +965,7 @@ fn still(rng: &mut Rng) -> Option<Move> {
 // How the outlines lie at time zero (request Q-1)
 
 /// Some of the corners, at least three, in their order; those at the places
-/// `kept` among them. A part of a sound outline is sound.
+/// `kept` among them. A part of a strict outline is strict.
 fn part_of(rng: &mut Rng, outline: &[Point], kept: &[usize]) -> Vec<Point> {
     loop {
         let part: Vec<Point> = (0..outline.len())
@@ -999,7 +1063,7 @@ pub fn by_parallel_edges(rng: &mut Rng) -> Option<Touch> {
         paired(&steps)
     };
     let (a, b) = (one(), one());
-    if !is_sound(&a) || !is_sound(&b) {
+    if !is_strict(&a) || !is_strict(&b) {
         return None;
     }
     let along = |outline: &[Point], direction: Point| {
@@ -1208,14 +1272,9 @@ pub fn unsound(rng: &mut Rng) -> Move {
 }
 
 // ---------------------------------------------------------------------------
-// Outlines with a bad edge (request Q-3)
+// Outlines with an edge that is not strict (request Q-3)
 
-pub fn bad_edges(outline: &[Point]) -> Vec<usize> {
-    let is_bad = |i: &usize| is_bad_edge(outline, *i);
-    (0..outline.len()).filter(is_bad).collect()
-}
-
-/// One corner of a sound outline out of its place. Mostly few edges are bad
+/// One corner of a strict outline out of its place. Mostly few edges are loose
 /// then, those at the corner among them.
 fn displaced(rng: &mut Rng, outline: &[Point]) -> Vec<Point> {
     let mut corners = outline.to_vec();
@@ -1291,8 +1350,8 @@ fn straightened(rng: &mut Rng, outline: &[Point]) -> Vec<Point> {
     corners
 }
 
-/// The same outline, begun at a corner from which the lowest bad edge is as
-/// wanted, if there is one.
+/// The same outline, begun at a corner from which the lowest edge that is not
+/// strict is as wanted, if there is one.
 fn begun_so(
     rng: &mut Rng,
     outline: &[Point],
@@ -1300,7 +1359,10 @@ fn begun_so(
 ) -> Option<Vec<Point>> {
     let begun_at = |turn: usize| [&outline[turn..], &outline[..turn]].concat();
     let fit: Vec<usize> = (0..outline.len())
-        .filter(|&turn| lowest_bad_edge(&begun_at(turn)).is_some_and(&wanted))
+        .filter(|&turn| {
+            let lowest = loose_edges(&begun_at(turn)).first().copied();
+            lowest.is_some_and(&wanted)
+        })
         .collect();
     match fit.is_empty() {
         true => None,
@@ -1323,7 +1385,7 @@ fn try_bad_outline(rng: &mut Rng, class: Class) -> Option<Vec<Point>> {
     if high.x - low.x > 2 * REACH || high.y - low.y > 2 * REACH {
         return None;
     }
-    if class == Class::BadSeveral && bad_edges(&spoiled).len() <= 2 {
+    if class == Class::BadSeveral && loose_edges(&spoiled).len() <= 2 {
         return None;
     }
     let late = spoiled.len() - 2;
@@ -1344,7 +1406,7 @@ fn bad_outline(rng: &mut Rng, class: Class) -> Vec<Point> {
     }
 }
 
-/// A move that is refused with 8 or 9, and so with an edge.
+/// A move with an outline that is not strict, or two.
 pub fn bad_move(rng: &mut Rng, class: Class) -> Move {
     let beside = rng.pick(&[Class::Touching, Class::Still, Class::Full, Class::Instant]);
     let mut m = sound_move(rng, beside);
@@ -1353,7 +1415,7 @@ pub fn bad_move(rng: &mut Rng, class: Class) -> Move {
         *outline = bad_outline(rng, class);
         return m;
     }
-    while lowest_bad_edge(&m.a) == lowest_bad_edge(&m.b) {
+    while loose_edges(&m.a).first() == loose_edges(&m.b).first() {
         let one_place = [Class::BadFirst, Class::BadMiddle, Class::BadLast];
         let (for_a, for_b) = (rng.pick(&one_place), rng.pick(&one_place));
         m.a = bad_outline(rng, for_a);

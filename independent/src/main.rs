@@ -9,12 +9,16 @@ mod rails;
 mod rectangle;
 mod runs;
 mod stops;
+mod straight;
 mod trays;
 
-use checker::{directions, edge, touched_at_zero, verdict, Move, Showing, Verdict};
+use checker::{
+    directions, edge, is_bad_edge, is_right_of, is_sound, lie_on_one_line, touched_at_zero,
+    verdict, Move, Point, Showing, Verdict,
+};
 use edition::Second;
 use frame::{Asked, Refusal};
-use generate::{bad_edges, Class, Set, BAD_EDGES};
+use generate::{Class, Set, BAD_EDGES, STRAIGHT_CORNERS};
 use log::{Kept, Step};
 use runs::Log;
 use std::io::{self, BufRead, BufReader, BufWriter, Write};
@@ -404,22 +408,25 @@ fn log_cases(kept: Kept, line: &[u8], step: &Step) -> Vec<&'static str> {
 }
 
 /// The cases of request Q-3, and before them those of lines of a log that come
-/// with them. A refusal with an edge counts by which it is, `edge-0`, `middle`
-/// or `late` (the last but one, above which none is named), and by which others
-/// of the outline are bad: `last-too`, just `two`, `more` or `all`. In `both`
-/// the other outline is not sound either. Of the named edge: `far`, both
-/// corners next to it are strictly to its left; `in-line`, no corner is to its
-/// right; `no-step`, it has no length.
-const EDGE_CASES: [&str; 16] = [
-    "accepted",
+/// with them. A line may be `accepted` (request Q-8). A refusal with an edge
+/// counts by which it is, `edge-0`, `middle`, `late` (the last but one) or
+/// `last`, and by which edges of the outline are bad: the last too (`last-too`),
+/// just `two`, `more` or `all`. In `both` the other outline is not sound either.
+/// Of the named edge: `far`, both corners next to it are strictly to its left;
+/// `in-line`, no corner is to its right; `no-step`, it has no length.
+const EDGE_CASES: [&str; 19] = [
     "r10-same",
+    "r10-half",
+    "r10-back",
     "passed-10",
+    "accepted",
     "r8",
     "r9",
     "both",
     "edge-0",
     "middle",
     "late",
+    "last",
     "last-too",
     "two",
     "more",
@@ -429,25 +436,53 @@ const EDGE_CASES: [&str; 16] = [
     "no-step",
 ];
 
+/// So many of the cases here and of those of request Q-8 are of logs alone.
+const OF_LOGS: usize = 4;
+
+fn bad_edges(outline: &[Point]) -> Vec<usize> {
+    let is_bad = |i: &usize| is_bad_edge(outline, *i);
+    (0..outline.len()).filter(is_bad).collect()
+}
+
+/// The outline that a bare line is refused for, the edge named, and the other
+/// outline; none where the refusal is another.
+fn refused_outline(line: &[u8], refusal: Refusal) -> Option<(Vec<Point>, usize, Vec<Point>)> {
+    let named = refusal.edge()?;
+    let bytes = frame::bytes_of(line, frame::MOST_DIGITS)?;
+    let m = frame::read_fields(&bytes).ok()?;
+    Some(match refusal {
+        Refusal::First(_) => (m.a, named, m.b),
+        _ => (m.b, named, m.a),
+    })
+}
+
+/// Those of the cases that are met.
+fn met_of<const N: usize>(cases: [(&'static str, bool); N]) -> Vec<&'static str> {
+    let met = cases.into_iter().filter(|(_, is_met)| *is_met);
+    met.map(|(case, _)| case).collect()
+}
+
+/// Which edge is named of an outline with so many.
+fn place_of_edge(named: usize, count: usize) -> &'static str {
+    match named {
+        0 => "edge-0",
+        n if n == count - 1 => "last",
+        n if n == count - 2 => "late",
+        _ => "middle",
+    }
+}
+
 /// Those of a bare line that is refused, or of what follows the head of one in
 /// a log.
 fn edge_cases(line: &[u8], refusal: Refusal) -> Vec<&'static str> {
-    let Some(named) = refusal.edge() else {
+    let Some((outline, named, other)) = refused_outline(line, refusal) else {
         return Vec::new();
     };
-    let bytes = frame::bytes_of(line, frame::MOST_DIGITS).unwrap();
-    let m = frame::read_fields(&bytes).unwrap();
-    let is_first = matches!(refusal, Refusal::First(_));
-    let (outline, other) = if is_first { (m.a, m.b) } else { (m.b, m.a) };
     let (count, bad) = (outline.len(), bad_edges(&outline));
-
     let (start, stop) = edge(&outline, named);
     let left = |k: usize| stop.minus(start).cross(outline[k % count].minus(start));
-    let met = [
-        ("both", !bad_edges(&other).is_empty()),
-        ("edge-0", named == 0),
-        ("middle", 0 < named && named < count - 2),
-        ("late", named == count - 2),
+    let mut all = met_of([
+        ("both", !is_sound(&other)),
         ("last-too", bad.contains(&(count - 1))),
         ("two", bad.len() == 2),
         ("more", 2 < bad.len() && bad.len() < count),
@@ -455,9 +490,98 @@ fn edge_cases(line: &[u8], refusal: Refusal) -> Vec<&'static str> {
         ("far", left(named + count - 1) > 0 && left(named + 2) > 0),
         ("in-line", (0..count).all(|k| left(k) >= 0)),
         ("no-step", start == stop),
-    ];
-    let met = met.into_iter().filter(|(_, is_met)| *is_met);
-    met.map(|(case, _)| case).collect()
+    ]);
+    all.push(place_of_edge(named, count));
+    all
+}
+
+/// The cases of request Q-8. An accepted line counts by its straight corners in
+/// all: `plain`, without one, `one`, `two-up`, `six-up`, `13-up`; as `in-both` if
+/// each outline has some; and by its verdict. Of its contact: `bears-on`, the
+/// bearing is an edge with a straight corner at an end; `shown-by`, a straight
+/// corner shows. A refusal with an edge counts by which it is, as in request Q-3,
+/// and by its fault: `on-line`, all corners are on one line; `right`, a corner is
+/// to its right; `repeated`, its start is another corner, too; `both` of these.
+const STRAIGHT_CASES: [&str; 26] = [
+    "r10-same",
+    "r10-half",
+    "r10-back",
+    "passed-10",
+    "accepted",
+    "plain",
+    "one",
+    "two-up",
+    "six-up",
+    "13-up",
+    "in-both",
+    "clear1",
+    "clear2",
+    "contact",
+    "bears-on",
+    "shown-by",
+    "r8",
+    "r9",
+    "edge-0",
+    "middle",
+    "late",
+    "last",
+    "on-line",
+    "right",
+    "repeated",
+    "both",
+];
+
+fn accepted_cases(m: &Move) -> Vec<&'static str> {
+    let (on_a, on_b) = (
+        straight::straight_corners(&m.a),
+        straight::straight_corners(&m.b),
+    );
+    let mut all = vec![match on_a.len() + on_b.len() {
+        0 => "plain",
+        1 => "one",
+        2..=5 => "two-up",
+        6..=12 => "six-up",
+        _ => "13-up",
+    }];
+    all.extend((!on_a.is_empty() && !on_b.is_empty()).then_some("in-both"));
+    let (count_a, count_b) = (m.a.len(), m.b.len());
+    let is_along = |side: usize| match side.checked_sub(count_a) {
+        None => on_a.contains(&side) || on_a.contains(&((side + 1) % count_a)),
+        Some(i) => on_b.contains(&i) || on_b.contains(&((i + 1) % count_b)),
+    };
+    let is_straight = |showing: Showing| match showing {
+        Showing::CornerOfA(i) => on_a.contains(&i),
+        Showing::CornerOfB(j) => on_b.contains(&j),
+        Showing::Edges(_, _) => false,
+    };
+    match verdict(m) {
+        Verdict::ClearByOne(_) => all.push("clear1"),
+        Verdict::ClearByTwo(_, _) => all.push("clear2"),
+        Verdict::Contact {
+            bearing, showing, ..
+        } => all.extend(met_of([
+            ("contact", true),
+            ("bears-on", bearing.is_some_and(is_along)),
+            ("shown-by", is_straight(showing)),
+        ])),
+    }
+    all
+}
+
+fn fault_cases(line: &[u8], refusal: Refusal) -> Vec<&'static str> {
+    let Some((outline, named, _)) = refused_outline(line, refusal) else {
+        return Vec::new();
+    };
+    let right = outline.iter().any(|c| is_right_of(&outline, named, *c));
+    let at_start = |c: &&Point| **c == outline[named];
+    let repeated = outline.iter().filter(at_start).count() > 1;
+    let fault = match (lie_on_one_line(&outline), right, repeated) {
+        (true, _, _) => "on-line",
+        (_, true, true) => "both",
+        (_, true, _) => "right",
+        _ => "repeated",
+    };
+    vec![place_of_edge(named, outline.len()), fault]
 }
 
 /// How often each case came up in each class, and each edge in all.
@@ -536,7 +660,8 @@ fn count_moves(seed: u64, count: u64, set: Set) -> Table {
     let columns = match set[0].0 {
         Class::Rail(_) => &EDITION_CASES[..],
         Class::Stop(_) => &STOP_CASES[..],
-        class if generate::is_of(BAD_EDGES, class) => &EDGE_CASES[3..],
+        class if generate::is_of(BAD_EDGES, class) => &EDGE_CASES[OF_LOGS..],
+        class if generate::is_of(STRAIGHT_CORNERS, class) => &STRAIGHT_CASES[OF_LOGS..],
         _ => &CASES[..],
     };
     let mut table = Table::new(columns, set.iter().map(|(_, name)| *name));
@@ -551,10 +676,15 @@ fn count_moves(seed: u64, count: u64, set: Set) -> Table {
         let mut met = match (class, &read) {
             (Class::Rail(_), Ok(m)) => edition_cases(m),
             (Class::Stop(_), Ok(m)) => stop_cases(m),
+            (Class::Drawn(_) | Class::Misdrawn(_), Ok(m)) => accepted_cases(m),
             _ => cases(&read),
         };
-        let refusal = read.err();
-        met.extend(refusal.map_or(Vec::new(), |r| edge_cases(&line, r)));
+        let refusal = read.as_ref().err().copied();
+        met.extend(read.is_ok().then_some("accepted"));
+        met.extend(refusal.map_or(Vec::new(), |r| match class {
+            Class::Misdrawn(_) => fault_cases(&line, r),
+            _ => edge_cases(&line, r),
+        }));
         table.add(row, &met, refusal);
     }
     table
@@ -571,12 +701,19 @@ fn count_trays(seed: u64, count: u64, set: trays::Set) -> Table {
     table
 }
 
+/// The cases of a bare line that is refused.
+type EdgeCases = fn(&[u8], Refusal) -> Vec<&'static str>;
+
 /// The counts of a log, and how many lines it has lost.
 fn count_log(seed: u64, count: u64, set: runs::Set) -> (Table, u64) {
     let is_bad = |(class, _): &(runs::Class, _)| matches!(class, runs::Class::Bad(_));
-    let columns = match set.iter().any(is_bad) {
-        true => &EDGE_CASES[..],
-        false => &LOG_CASES[..],
+    let is_drawn = |(class, _): &(runs::Class, _)| {
+        matches!(class, runs::Class::Drawn(_) | runs::Class::Misdrawn(_))
+    };
+    let (columns, of_edge): (&'static [&'static str], EdgeCases) = match set {
+        set if set.iter().any(is_drawn) => (&STRAIGHT_CASES, fault_cases),
+        set if set.iter().any(is_bad) => (&EDGE_CASES, edge_cases),
+        _ => (&LOG_CASES, edge_cases),
     };
     let mut table = Table::new(columns, set.iter().map(|(_, name)| *name));
     let (mut kept, mut lost) = (None, 0);
@@ -586,7 +723,9 @@ fn count_log(seed: u64, count: u64, set: runs::Set) -> (Table, u64) {
         let mut met = log_cases(kept, &line, &step);
         let refusal = step.answer.err();
         let bare = line.get(6..).unwrap_or_default();
-        met.extend(refusal.map_or(Vec::new(), |r| edge_cases(bare, r)));
+        met.extend(refusal.map_or(Vec::new(), |r| of_edge(bare, r)));
+        let read = step.answer.and_then(|_| frame::read_move(bare));
+        met.extend(read.map_or(Vec::new(), |m| accepted_cases(&m)));
         table.add(row, &met, refusal);
         kept = step.kept;
         lost += u64::from(step.lost);
@@ -639,5 +778,7 @@ mod tests_edges;
 mod tests_editions;
 #[cfg(test)]
 mod tests_log;
+#[cfg(test)]
+mod tests_straight;
 #[cfg(test)]
 mod tests_trays;

@@ -40,14 +40,14 @@ pub enum Class {
 /// Which way the outlines go when they meet, and at what time they do: `step`
 /// is taken `pace` times in a unit of time and `steps` times on the way, so that
 /// the time is a fraction.
-struct Way {
+pub struct Way {
     step: Point,
     pace: i128,
     steps: i128,
 }
 
 impl Way {
-    fn any(rng: &mut Rng, step: Point) -> Way {
+    pub fn any(rng: &mut Rng, step: Point) -> Way {
         let reach = step.x.abs().max(step.y.abs()).max(1);
         let pace = rng.size(1, (2 * REACH / reach).clamp(1, 400));
         let most = (9000 / reach).clamp(1, pace * REACH);
@@ -58,12 +58,12 @@ impl Way {
         Way { step, pace, steps }
     }
 
-    fn velocity(&self) -> Point {
+    pub fn velocity(&self) -> Point {
         self.step.times(self.pace)
     }
 
     /// An outline as it is at time zero if it is this one when they meet.
-    fn before(&self, outline: &[Point]) -> Vec<Point> {
+    pub fn before(&self, outline: &[Point]) -> Vec<Point> {
         shifted(outline, self.step.times(-self.steps))
     }
 
@@ -73,7 +73,7 @@ impl Way {
     }
 
     /// Mostly a limit that is after it.
-    fn limit(&self, rng: &mut Rng) -> i128 {
+    pub fn limit(&self, rng: &mut Rng) -> i128 {
         match rng.index(6) {
             0 => any_limit(rng),
             1 => self.after(),

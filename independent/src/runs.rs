@@ -1,4 +1,4 @@
-//! Seeded logs (requests ). The numbers of a log walk on from line to line,
+//! Seeded logs (requests ). The numbers of a log walk on from line to line,
 //! so that a line depends on the seed, its place and the number that the lines
 //! before it leave kept. The class of a line is drawn, and not taken in turn,
 //! so that each comes after each.
@@ -6,10 +6,11 @@
 use super::checker::Move;
 use super::frame::write_move;
 use super::generate::{
-    any_digits, bad_move, damaged, limit_outside, no_digit, outline, place_outside, scattered,
-    sound_move, speed_outside, unsound, Class as MoveClass, Rng, AT_ZERO, BASE,
+    any_digits, bad_move, damaged, is_strict, limit_outside, no_digit, outline, place_outside,
+    scattered, sound_move, speed_outside, unsound, Class as MoveClass, Rng, AT_ZERO, BASE,
 };
-use super::log::{head, step, write_log, Kept, MOST_DIGITS};
+use super::log::{head, read_log, step, write_log, Kept, MOST_DIGITS};
+use super::straight::{self, Drawn, Misdrawn};
 
 #[derive(Clone, Copy, Debug, PartialEq, Eq)]
 pub enum Class {
@@ -39,8 +40,11 @@ pub enum Class {
     Kind,
     /// Cut, lengthened or changed anywhere.
     Damaged,
-    /// Not sound, a move of a class of request Q-3.
+    /// A move of a class of request Q-3.
     Bad(MoveClass),
+    /// A move of a class of request Q-8.
+    Drawn(Drawn),
+    Misdrawn(Misdrawn),
 }
 
 pub type Set = &'static [(Class, &'static str)];
@@ -61,7 +65,7 @@ pub const LOG: Set = &[
     (Class::Damaged, "log-damaged"),
 ];
 
-/// Of request Q-3: lines that are not sound, among some that are.
+/// Of request Q-3: lines that are not strict, among some that are.
 pub const LOG_BAD_EDGES: Set = &[
     (Class::Next, "next"),
     (Class::Again, "again"),
@@ -75,7 +79,25 @@ pub const LOG_BAD_EDGES: Set = &[
     (Class::Bad(MoveClass::Straight), "log-straight"),
 ];
 
-pub const SETS: [(&str, Set); 2] = [("Q-2", LOG), ("Q-3-log", LOG_BAD_EDGES)];
+/// Of request Q-8: lines with straight corners, and some that are not sound.
+pub const LOG_STRAIGHT_CORNERS: Set = &[
+    (Class::Next, "next"),
+    (Class::Again, "again"),
+    (Class::Drawn(Drawn::OneEdge), "log-one-edge"),
+    (Class::Drawn(Drawn::AllEdges), "log-all-edges"),
+    (Class::Drawn(Drawn::Sixteen), "log-sixteen"),
+    (Class::Drawn(Drawn::Both), "log-on-both"),
+    (Class::Misdrawn(Misdrawn::HairOff), "log-hair-off"),
+    (Class::Misdrawn(Misdrawn::OutOfOrder), "log-out-of-order"),
+    (Class::Misdrawn(Misdrawn::Apart), "log-apart"),
+    (Class::Misdrawn(Misdrawn::OneLine), "log-one-line"),
+];
+
+pub const SETS: [(&str, Set); 3] = [
+    ("Q-2", LOG),
+    ("Q-3-log", LOG_BAD_EDGES),
+    ("Q-8-log", LOG_STRAIGHT_CORNERS),
+];
 
 pub fn set_named(name: &str) -> Option<Set> {
     SETS.iter().find(|(n, _)| *n == name).map(|(_, set)| *set)
@@ -114,9 +136,17 @@ impl Iterator for Log {
         let class = rng.pick(self.set).0;
         let made = line(&mut rng, class, self.kept);
         self.place += 1;
-        self.kept = step(self.kept, &made).kept;
+        if self.set == LOG_STRAIGHT_CORNERS || has_strict_outlines(&made) {
+            self.kept = step(self.kept, &made).kept;
+        }
         Some((class, made))
     }
+}
+
+/// The sets before request Q-8 go by the number of the last line that would be
+/// accepted without it, so that their lines stay as they are.
+fn has_strict_outlines(line: &[u8]) -> bool {
+    read_log(line).is_ok_and(|(_, m)| is_strict(&m.a) && is_strict(&m.b))
 }
 
 fn line(rng: &mut Rng, class: Class, kept: Kept) -> Vec<u8> {
@@ -139,6 +169,11 @@ fn line(rng: &mut Rng, class: Class, kept: Kept) -> Vec<u8> {
         Class::Kind => kind(rng, &m, kept),
         Class::Damaged => damaged_anywhere(rng, &m, kept),
         Class::Bad(class) => write_log(any_way(rng, kept), &bad_move(rng, class)),
+        Class::Drawn(class) => {
+            let m = sound_move(rng, MoveClass::Drawn(class));
+            write_log(any_way(rng, kept), &m)
+        }
+        Class::Misdrawn(class) => write_log(any_way(rng, kept), &straight::misdrawn(rng, class)),
     }
 }
 

@@ -223,7 +223,8 @@ fn the_first_refusal_that_applies_is_given() {
 fn outlines_are_sound_only_as_defined() {
     assert!(is_sound(&s(0, 0)));
     assert!(!is_sound(&points(&[(0, 0), (0, 2), (2, 0)])));
-    assert!(!is_sound(&points(&[(0, 0), (1, 0), (2, 0), (0, 2)])));
+    assert!(is_sound(&points(&[(0, 0), (1, 0), (2, 0), (0, 2)])));
+    assert!(!is_sound(&points(&[(0, 0), (2, 0), (1, 0), (0, 2)])));
     assert!(!is_sound(&points(&[(0, 0), (2, 0), (2, 0), (0, 2)])));
     assert!(!is_sound(&points(&[(0, 0), (4, 0), (1, 1), (0, 4)])));
     assert!(!is_sound(&points(&[(0, 0), (1, 1), (2, 2)])));
@@ -263,7 +264,7 @@ pub fn sample(each: u64) -> Vec<(Class, Move)> {
     let mut all = Vec::new();
     for class in classes() {
         let refused = [Class::Unsound, Class::Damaged].contains(&class) || is_of(BAD_EDGES, class);
-        if !refused {
+        if !refused && !matches!(class, Class::Misdrawn(_)) {
             all.extend((0..each).map(|i| (class, sound_move(&mut Rng::for_line(7, i), class))));
         }
     }
@@ -494,7 +495,8 @@ fn classes_lie_at_zero_as_they_say() {
 }
 
 /// Whole weights on the corners of `outline` for the point `p` inside or on
-/// it: areas in the first triangle of the fan from corner 0 that holds it.
+/// it: areas in the first triangle of the fan from corner 0 that holds it. Next
+/// to a straight corner a triangle may have no area.
 fn weights_of(outline: &[Point], p: Point) -> Vec<i128> {
     for k in 1..outline.len() - 1 {
         let (u, v, w) = (outline[0], outline[k], outline[k + 1]);
@@ -503,7 +505,7 @@ fn weights_of(outline: &[Point], p: Point) -> Vec<i128> {
             w.minus(p).cross(u.minus(p)),
             u.minus(p).cross(v.minus(p)),
         ];
-        if areas.iter().all(|area| *area >= 0) {
+        if areas.iter().all(|area| *area >= 0) && areas.iter().sum::<i128>() > 0 {
             let mut weights = vec![0; outline.len()];
             (weights[0], weights[k], weights[k + 1]) = (areas[0], areas[1], areas[2]);
             return weights;

@@ -1,18 +1,19 @@
 //! Tests of the edge that a refusal names (request Q-3), run by `rustc --test`.
+//! Which edge that is for each small outline is tested in tests_straight.rs.
 
-use super::checker::{lowest_bad_edge, point, Move, Point};
+use super::checker::{edge_named, is_sound, Move};
 use super::frame::{self, read_fields, write_answer, write_move, Refusal};
-use super::generate::{self, bad_edges, line, BAD_EDGES, BASE, STAR};
+use super::generate::{self, is_strict, line, BAD_EDGES, BASE, STAR, STRAIGHT_CORNERS};
 use super::log::{step, write_log};
-use super::runs::{Log, LOG, LOG_BAD_EDGES};
+use super::runs::{Log, LOG, LOG_BAD_EDGES, LOG_STRAIGHT_CORNERS};
 use super::tests::{paper_cases, points};
-use super::{count_log, count_moves, EDGE_CASES};
+use super::{count_log, count_moves, EDGE_CASES, OF_LOGS};
 
 #[test]
 fn the_lowest_edge_is_named() {
-    let of = |list: &[(i128, i128)]| lowest_bad_edge(&points(list));
+    let of = |list: &[(i128, i128)]| edge_named(&points(list));
     assert_eq!(of(&[(0, 0), (2, 0), (2, 2), (0, 2)]), None);
-    assert_eq!(lowest_bad_edge(&STAR), Some(0));
+    assert_eq!(edge_named(&STAR), Some(0));
     // A corner pulled in, and in so far that the edges at it are bad: in turn
     // at each corner.
     assert_eq!(of(&[(1, 1), (4, 0), (4, 4), (0, 4)]), None);
@@ -22,17 +23,19 @@ fn the_lowest_edge_is_named() {
     assert_eq!(of(&[(0, 0), (4, 0), (4, 4), (3, 1)]), Some(2));
     assert_eq!(of(&[(0, 0), (4, 0), (6, 3), (4, 6), (3, 3)]), Some(3));
     // A straight corner, on each edge in turn.
-    assert_eq!(of(&[(0, 0), (1, 0), (2, 0), (2, 2), (0, 2)]), Some(0));
-    assert_eq!(of(&[(0, 0), (2, 0), (2, 1), (2, 2), (0, 2)]), Some(1));
-    assert_eq!(of(&[(0, 0), (2, 0), (2, 2), (1, 2), (0, 2)]), Some(2));
-    // On the last edge: the new edge before it has the first corner in line.
-    assert_eq!(of(&[(0, 0), (2, 0), (2, 2), (0, 2), (0, 1)]), Some(3));
-    // A repeated corner lies on the line of every edge that has it as an end.
+    assert_eq!(of(&[(0, 0), (1, 0), (2, 0), (2, 2), (0, 2)]), None);
+    assert_eq!(of(&[(0, 0), (2, 0), (2, 1), (2, 2), (0, 2)]), None);
+    assert_eq!(of(&[(0, 0), (2, 0), (2, 2), (1, 2), (0, 2)]), None);
+    assert_eq!(of(&[(0, 0), (2, 0), (2, 2), (0, 2), (0, 1)]), None);
+    // A repeated corner, beside the other and apart: the lower edge that
+    // starts there.
     assert_eq!(of(&[(0, 0), (0, 0), (2, 0), (2, 2), (0, 2)]), Some(0));
-    assert_eq!(of(&[(0, 0), (2, 0), (2, 0), (2, 2), (0, 2)]), Some(0));
-    assert_eq!(of(&[(0, 0), (2, 0), (2, 2), (2, 2), (0, 2)]), Some(1));
-    assert_eq!(of(&[(0, 0), (2, 0), (2, 2), (0, 2), (0, 2)]), Some(2));
+    assert_eq!(of(&[(0, 0), (2, 0), (2, 0), (2, 2), (0, 2)]), Some(1));
+    assert_eq!(of(&[(0, 0), (2, 0), (2, 2), (2, 2), (0, 2)]), Some(2));
+    assert_eq!(of(&[(0, 0), (2, 0), (2, 2), (0, 2), (0, 2)]), Some(3));
     assert_eq!(of(&[(0, 0), (2, 0), (2, 2), (0, 2), (0, 0)]), Some(0));
+    assert_eq!(of(&[(0, 0), (2, 0), (2, 2), (0, 2), (2, 0)]), Some(1));
+    assert_eq!(of(&[(0, 0), (1, 0), (2, 0), (1, 0), (0, 2)]), Some(1));
     // Clockwise, all in line, all at one place, a triangle.
     assert_eq!(of(&[(0, 2), (2, 2), (2, 0), (0, 0)]), Some(0));
     assert_eq!(of(&[(0, 0), (1, 1), (2, 2), (3, 3)]), Some(0));
@@ -40,54 +43,7 @@ fn the_lowest_edge_is_named() {
     assert_eq!(of(&[(0, 0), (0, 1), (1, 0)]), Some(0));
 }
 
-/// Twice the area of the triangle of three points, above zero if they go round
-/// counterclockwise: the paper's cross product in another form.
-fn area(p: Point, q: Point, r: Point) -> i128 {
-    (p.x * q.y - q.x * p.y) + (q.x * r.y - r.x * q.y) + (r.x * p.y - p.x * r.y)
-}
-
-/// The request's words, edge by edge: a corner that is no end of it makes no
-/// counterclockwise triangle with it.
-fn has_corner_not_left(outline: &[Point], i: usize) -> bool {
-    let next = (i + 1) % outline.len();
-    let ends = [i, next];
-    let mut others = (0..outline.len()).filter(|k| !ends.contains(k));
-    others.any(|k| area(outline[i], outline[next], outline[k]) <= 0)
-}
-
-fn assert_names_lowest(outline: &[Point]) {
-    match lowest_bad_edge(outline) {
-        None => assert!((0..outline.len()).all(|i| !has_corner_not_left(outline, i))),
-        Some(edge) => {
-            assert!(has_corner_not_left(outline, edge), "{outline:?}");
-            assert!((0..edge).all(|i| !has_corner_not_left(outline, i)));
-        }
-    }
-}
-
-/// Every list of three to five corners of a small grid. The last edge is never
-/// the only bad one, so that it is never named.
-#[test]
-fn every_small_outline() {
-    let grid: Vec<Point> = (0..16).map(|i| point(i % 4, i / 4)).collect();
-    for count in 3..=5 {
-        let mut named = vec![0; count];
-        for number in 0..16usize.pow(count as u32) {
-            let corner = |k: usize| grid[number >> (4 * k) & 15];
-            let outline: Vec<Point> = (0..count).map(corner).collect();
-            assert_names_lowest(&outline);
-            if let Some(edge) = lowest_bad_edge(&outline) {
-                assert!(bad_edges(&outline).len() > 1, "{outline:?}");
-                named[edge] += 1;
-            }
-        }
-        let late = if count == 3 { 0 } else { count - 2 };
-        let met = |edge: usize| named[edge] > 0;
-        assert!((0..count).all(|edge| met(edge) == (edge <= late)));
-    }
-}
-
-fn fields(line: &[u8]) -> Option<Move> {
+pub fn fields(line: &[u8]) -> Option<Move> {
     read_fields(&frame::bytes_of(line, frame::MOST_DIGITS)?).ok()
 }
 
@@ -95,7 +51,11 @@ fn fields(line: &[u8]) -> Option<Move> {
 /// fourth byte; other refusals have none.
 #[test]
 fn refusals_carry_the_edge() {
-    for (set, count) in [(BASE, 20_000), (BAD_EDGES, 20_000)] {
+    for (set, count) in [
+        (BASE, 20_000),
+        (BAD_EDGES, 20_000),
+        (STRAIGHT_CORNERS, 20_000),
+    ] {
         for place in 0..count {
             let line = line(11, place, generate::class_of_place(set, place));
             let Err(refusal) = frame::answer(&line) else {
@@ -105,11 +65,11 @@ fn refusals_carry_the_edge() {
             let head = format!("81ff{:02x}", refusal.number());
             let m = fields(&line);
             let edge = match refusal {
-                Refusal::First(_) => lowest_bad_edge(&m.unwrap().a),
+                Refusal::First(_) => edge_named(&m.unwrap().a),
                 Refusal::Second(_) => {
                     let m = m.unwrap();
-                    assert_eq!(lowest_bad_edge(&m.a), None);
-                    lowest_bad_edge(&m.b)
+                    assert_eq!(edge_named(&m.a), None);
+                    edge_named(&m.b)
                 }
                 _ => None,
             };
@@ -123,6 +83,8 @@ fn refusals_carry_the_edge() {
     }
 }
 
+/// No move of these classes is strict, so that all were refused before request
+/// Q-8; since then those are accepted that are sound.
 #[test]
 fn the_generator_gives_what_it_says() {
     for (class, name) in BAD_EDGES {
@@ -131,30 +93,36 @@ fn the_generator_gives_what_it_says() {
             assert_eq!(made, line(5, place, *class));
             let m = fields(&made).expect("all but the outlines is well");
             assert_eq!(write_move(&m), made);
-            assert_names_lowest(&m.a);
-            assert_names_lowest(&m.b);
-            assert!(
-                frame::answer(&made).is_err_and(|r| r.edge().is_some()),
-                "{name}"
-            );
+            assert!(!is_strict(&m.a) || !is_strict(&m.b), "{name}");
+            match frame::answer(&made) {
+                Ok(_) => assert!(is_sound(&m.a) && is_sound(&m.b), "{name}"),
+                Err(refusal) => assert!(refusal.edge().is_some(), "{name}"),
+            }
         }
     }
     let table = count_moves(5, 16_000, BAD_EDGES);
     let (log, _) = count_log(5, 20_000, LOG_BAD_EDGES);
-    for (table, cases) in [(table, &EDGE_CASES[3..]), (log, &EDGE_CASES[..])] {
+    for (table, cases) in [(table, &EDGE_CASES[OF_LOGS..]), (log, &EDGE_CASES[..])] {
         for (column, case) in cases.iter().enumerate() {
             let met: u64 = table.rows.iter().map(|row| row.2[column]).sum();
-            assert!(met >= 150, "{case} {met}");
+            // The last edge is named where straight corners are out of order.
+            // Where a line with straight corners is accepted, the numbers that
+            // the log goes by stay behind, and few are in order from then on.
+            let least = match *case {
+                "r10-half" | "last" => 0,
+                "r10-same" | "accepted" => 20,
+                _ => 100,
+            };
+            assert!(met >= least, "{case} {met}");
         }
         assert!(table.named[..15].iter().all(|times| *times >= 100));
-        assert_eq!(table.named[15], 0);
     }
 }
 
 /// In a log the same, and what is kept stays.
 #[test]
 fn logs_carry_the_edge() {
-    for set in [LOG, LOG_BAD_EDGES] {
+    for set in [LOG, LOG_BAD_EDGES, LOG_STRAIGHT_CORNERS] {
         let mut kept = None;
         for (class, line) in Log::new(8, set).take(10_000) {
             let step = step(kept, &line);
