@@ -158,25 +158,65 @@ fn crosses(outline: &[Point], p: Point) -> Vec<i128> {
     (0..outline.len()).map(cross).collect()
 }
 
-fn is_sound(outline: &[Point]) -> bool {
-    (0..outline.len()).all(|k| {
-        let crosses = crosses(outline, outline[k]);
-        (0..outline.len()).all(|i| k == i || k == next(outline, i) || crosses[i] > 0)
+/// Whether no three corners turn.
+fn on_one_line(outline: &[Point]) -> bool {
+    let turns = |p: Point, q: Point, r: Point| q.minus(p).cross(r.minus(p)) != 0;
+    !outline.iter().any(|&p| {
+        let from = |q: Point| outline.iter().any(|&r| turns(p, q, r));
+        outline.iter().any(|&q| from(q))
     })
 }
 
-/// The lowest edge that has a corner, other than its two ends, not strictly to
-/// its left, and the lowest such corner.
-fn wrong_edge(outline: &[Point]) -> Option<(usize, usize)> {
-    let all = 0..outline.len();
-    let mut pairs = all.clone().flat_map(|i| all.clone().map(move |k| (i, k)));
-    let is_end = |i: usize, k: usize| k == i || k == next(outline, i);
-    let found = pairs.find(|&(i, k)| !is_end(i, k) && crosses(outline, outline[k])[i] <= 0);
+/// All corners differ, not all lie on one line, and none lies to the right of an
+/// edge.
+fn is_sound(outline: &[Point]) -> bool {
+    let differs = |i: usize| !outline[..i].contains(&outline[i]);
+    let none_right = |&c: &Point| crosses(outline, c).iter().all(|&c| c >= 0);
+    (0..outline.len()).all(differs) && !on_one_line(outline) && outline.iter().all(none_right)
+}
+
+/// The lowest corner to the right of edge i, if there is one.
+fn right_of(outline: &[Point], i: usize) -> Option<usize> {
+    (0..outline.len()).find(|&k| crosses(outline, outline[k])[i] < 0)
+}
+
+/// The edge that is wrong: edge 0 if all corners are on one line, else the lowest
+/// that has a corner to its right or starts where another corner is.
+fn wrong_edge(outline: &[Point]) -> Option<usize> {
+    let at = |i: usize| outline.iter().filter(|c| **c == outline[i]).count();
+    let is_wrong = |&i: &usize| right_of(outline, i).is_some() || at(i) > 1;
+    let found = match on_one_line(outline) {
+        true => Some(0),
+        false => (0..outline.len()).find(is_wrong),
+    };
     check(
         found.is_none() == is_sound(outline),
         "sound if no edge is wrong",
     );
     found
+}
+
+/// Outlines that the document does not work, with the edge that is wrong.
+fn check_wrong_edges() {
+    let expect = |outline: &[(i128, i128)], edge: Option<usize>| {
+        let outline: Vec<Point> = outline.iter().map(|&(x, y)| Point(x, y)).collect();
+        check(wrong_edge(&outline) == edge, "the edge that is wrong");
+    };
+    // Straight corners, in order and not.
+    expect(&[(0, 0), (1, 0), (2, 0), (0, 2)], None);
+    expect(&[(0, 0), (1, 0), (2, 0), (1, 1), (0, 2), (0, 1)], None);
+    expect(&[(0, 0), (2, 0), (1, 0), (3, 0), (0, 3)], Some(1));
+    expect(&[(1, 0), (3, 0), (0, 3), (0, 0), (2, 0)], Some(4));
+    // A corner twice, beside and apart.
+    expect(&[(0, 0), (2, 0), (2, 0), (0, 2)], Some(1));
+    expect(&[(0, 0), (2, 0), (2, 2), (0, 2), (2, 0)], Some(1));
+    // Twice round, where no corner is to the right of an edge.
+    expect(&[(0, 0), (3, 0), (0, 3), (0, 0), (3, 0), (0, 3)], Some(0));
+    // All on one line, at one place, and clockwise.
+    expect(&[(0, 0), (1, 0), (2, 0)], Some(0));
+    expect(&[(4, 2), (0, 0), (2, 1), (6, 3)], Some(0));
+    expect(&[(7, 7), (7, 7), (7, 7)], Some(0));
+    expect(&[(0, 2), (1, 2), (2, 2), (2, 0), (0, 0)], Some(0));
 }
 
 fn inside(outline: &[Point], p: Point) -> bool {
@@ -948,7 +988,8 @@ fn sides_of(m: &Move) -> Vec<Side> {
 // Outlines that are not sound.
 
 /// Why a move is refused for its outlines: which is not sound, its refusal's
-/// number, the edge named and a corner not strictly to its left.
+/// number, the edge named and the lowest corner to its right. The moves worked
+/// here have one.
 struct Wrong<'a> {
     of: char,
     refusal: u8,
@@ -959,12 +1000,12 @@ struct Wrong<'a> {
 
 fn wrong(m: &Move) -> Option<Wrong<'_>> {
     let of = |of, refusal, outline| {
-        wrong_edge(outline).map(|(edge, corner)| Wrong {
+        wrong_edge(outline).map(|edge| Wrong {
             of,
             refusal,
             outline,
             edge,
-            corner,
+            corner: right_of(outline, edge).expect("a corner to the right"),
         })
     };
     of('A', 8, &m.a[..]).or_else(|| of('B', 9, &m.b[..]))
@@ -1013,14 +1054,11 @@ fn edge_block(w: &Wrong) -> String {
     let (start, stop, corner) = (outline[i], outline[next(outline, i)], outline[k]);
     let (step, to_corner) = (stop.minus(start), corner.minus(start));
     let cross = step.cross(to_corner);
-    check(cross <= 0, "the cross product is not above zero");
-    let side = match cross {
-        0 => "on the line of the edge",
-        _ => "to the right of the edge",
-    };
+    check(cross < 0, "the cross product is below zero");
     format!(
         "The step of edge {i} is {stop} - {start} = {step}; the step from its start to corner {k} \
-         is {corner} - {start} = {to_corner}.\n\n{}\n\n{cross} is not above zero: corner {k} lies {side}.\n",
+         is {corner} - {start} = {to_corner}.\n\n{}\n\n{cross} is not above zero: corner {k} lies to \
+         the right of the edge.\n",
         cross_text(step, to_corner)
     )
 }
@@ -1890,6 +1928,7 @@ fn print(name: &str, m: &Move, p1: &Move, sides: &[Side], v: Verdict) {
 
 fn main() {
     let wanted = std::env::args().nth(1).unwrap_or_default();
+    check_wrong_edges();
     let p1 = read(example(1));
     let worked = ["P1", "F", "P9", "P3", "P6"].map(|name| {
         let m = read(named(name));
