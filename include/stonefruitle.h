@@ -32,15 +32,15 @@
  *          rectangles, as lines or as numbers.
  * Time     bounded, whatever is handed in. A longer line or list is refused
  *          unread. Each outline's 16 corners at most are tried against its 16
- *          edges. At most 32 sides are worked, each with 31 products for the
- *          corners and two for the velocities; for a contact from time zero
- *          they are gone through once more at most. For a contact, 2 times 16
- *          corners at most are tried against 16 edges, and 256 pairs of edges
- *          in 4 directions; two fractions are brought to lowest terms by at
- *          most 43 divisions each. Of rectangles two spans are worked, and 8
- *          corners at most are tried by comparisons. The slowest of 5802 moves
- *          of twice 16 corners took 16 microseconds on one core of an Intel Xeon
- *          server: a figure of one machine, not a promise.
+ *          edges, and once more against edge 0. At most 32 sides are worked,
+ *          each with 31 products for the corners and two for the velocities; for
+ *          a contact from time zero they are gone through once more at most. For
+ *          a contact, 2 times 16 corners at most are tried against 16 edges, and
+ *          256 pairs of edges in 4 directions; two fractions are brought to
+ *          lowest terms by at most 43 divisions each. Of rectangles two spans are
+ *          worked, and 8 corners at most are tried by comparisons. The slowest of
+ *          5802 moves of twice 16 corners took 16 microseconds on one core of an
+ *          Intel Xeon server: a figure of one machine, not a promise.
  * Memory   nothing is allocated and nothing is kept between calls: there are no
  *          globals and no locks, so calls are safe from several threads, each
  *          with its own buffers.
@@ -56,6 +56,11 @@
  * bed, is a list of four: low x, low y, high x, high y. Coordinates and velocity
  * components are from -10000 to 10000, the limit is from 0 to 10000. Numbers
  * outside are refused; no input of any kind is undefined.
+ *
+ * Sound outlines. An outline is sound if all corners differ, not all lie on one
+ * line, and no corner lies to the right of any edge's line. So it is a convex
+ * polygon, passed once, counterclockwise; corners may lie along its edges. Edge i
+ * runs from corner i to corner i + 1, the last to corner 0.
  *
  * Lines. A move line, a line of a log or an answer line is hexadecimal text,
  * closed by byte 0a where it is written and handed in without it
@@ -74,11 +79,10 @@
  * apply the first in this list is returned.
  *
  * Edges. Each function takes as its last argument a place for the number of an
- * edge. With refusals 8 and 9, and with no other return, it is written: the
- * lowest edge of that outline that has a corner, other than its two ends, not
- * strictly to its left. Edge i runs from corner i to corner i + 1, the last to
- * corner 0. Of a rectangle it is 0. With any other return *edge is left as it
- * was.
+ * edge. With refusals 8 and 9, and with no other return, it is written: 0 if all
+ * corners of that outline are on one line, else its lowest edge that has a corner
+ * to its right or whose start equals another corner. Of a rectangle it is 0. With
+ * any other return *edge is left as it was.
  */
 #ifndef STONEFRUITLE_H
 #define STONEFRUITLE_H
@@ -356,9 +360,10 @@ uint8_t stonefruitle_read_log(const uint8_t *line, size_t line_length,
  *
  * Takes the outline's coordinates (length counts numbers) and a place for an
  * edge, and writes nothing else. Refusals: 4 for the count of numbers, 7 for a
- * coordinate out of range, 8 where the outline is not sound: some corner does
- * not lie strictly to the left of an edge that it is no end of. *edge is then
- * the lowest such edge.
+ * coordinate out of range, 8 where the outline is not sound: two corners are
+ * equal, all lie on one line, or one lies to the right of an edge's line. *edge
+ * is then 0 if all are on one line, else the lowest edge that has a corner to its
+ * right or whose start equals another corner.
  */
 uint8_t stonefruitle_test_outline(const int64_t *coordinates, size_t length,
                                   uint8_t *edge);

@@ -158,36 +158,41 @@ fn crosses(outline: &[Point], p: Point) -> Vec<i128> {
     (0..outline.len()).map(cross).collect()
 }
 
-/// Whether no three corners turn.
+/// Whether every three corners have the cross product zero.
 fn on_one_line(outline: &[Point]) -> bool {
-    let turns = |p: Point, q: Point, r: Point| q.minus(p).cross(r.minus(p)) != 0;
-    !outline.iter().any(|&p| {
-        let from = |q: Point| outline.iter().any(|&r| turns(p, q, r));
-        outline.iter().any(|&q| from(q))
-    })
+    let turn = |p: Point, q: Point, r: Point| q.minus(p).cross(r.minus(p));
+    let all = || outline.iter().copied();
+    all().all(|p| all().all(|q| all().all(|r| turn(p, q, r) == 0)))
 }
 
-/// All corners differ, not all lie on one line, and none lies to the right of an
-/// edge.
 fn is_sound(outline: &[Point]) -> bool {
-    let differs = |i: usize| !outline[..i].contains(&outline[i]);
-    let none_right = |&c: &Point| crosses(outline, c).iter().all(|&c| c >= 0);
-    (0..outline.len()).all(differs) && !on_one_line(outline) && outline.iter().all(none_right)
+    let differ = |i: usize| outline[i + 1..].iter().all(|p| *p != outline[i]);
+    (0..outline.len()).all(differ)
+        && !on_one_line(outline)
+        && outline.iter().all(|&p| inside(outline, p))
 }
 
-/// The lowest corner to the right of edge i, if there is one.
-fn right_of(outline: &[Point], i: usize) -> Option<usize> {
-    (0..outline.len()).find(|&k| crosses(outline, outline[k])[i] < 0)
+/// Why an edge is wrong: all corners are on one line, or this corner is to the
+/// right of the edge's line, or it equals the edge's start.
+#[derive(Clone, Copy)]
+enum Fault {
+    OneLine,
+    Right(usize),
+    Same(usize),
 }
 
-/// The edge that is wrong: edge 0 if all corners are on one line, else the lowest
-/// that has a corner to its right or starts where another corner is.
-fn wrong_edge(outline: &[Point]) -> Option<usize> {
-    let at = |i: usize| outline.iter().filter(|c| **c == outline[i]).count();
-    let is_wrong = |&i: &usize| right_of(outline, i).is_some() || at(i) > 1;
+/// Edge 0 where all corners are on one line, else the lowest edge that has a
+/// corner to its right or whose start equals another corner.
+fn wrong_edge(outline: &[Point]) -> Option<(usize, Fault)> {
+    let fault = |i: usize| {
+        let right = |&k: &usize| crosses(outline, outline[k])[i] < 0;
+        let same = |&k: &usize| k != i && outline[k] == outline[i];
+        let of_right = (0..outline.len()).find(right).map(Fault::Right);
+        of_right.or_else(|| (0..outline.len()).find(same).map(Fault::Same))
+    };
     let found = match on_one_line(outline) {
-        true => Some(0),
-        false => (0..outline.len()).find(is_wrong),
+        true => Some((0, Fault::OneLine)),
+        false => (0..outline.len()).find_map(|i| fault(i).map(|f| (i, f))),
     };
     check(
         found.is_none() == is_sound(outline),
@@ -200,7 +205,7 @@ fn wrong_edge(outline: &[Point]) -> Option<usize> {
 fn check_wrong_edges() {
     let expect = |outline: &[(i128, i128)], edge: Option<usize>| {
         let outline: Vec<Point> = outline.iter().map(|&(x, y)| Point(x, y)).collect();
-        check(wrong_edge(&outline) == edge, "the edge that is wrong");
+        check(wrong_edge(&outline).map(|found| found.0) == edge, "the edge that is wrong");
     };
     // Straight corners, in order and not.
     expect(&[(0, 0), (1, 0), (2, 0), (0, 2)], None);
@@ -403,7 +408,12 @@ fn weights(outline: &[Point], p: Point) -> Vec<i128> {
         all[i] = 1;
         return all;
     }
-    let on = crosses(outline, p).iter().position(|&c| c == 0);
+    // Edges that meet in a straight corner have one line: p has to be between the ends.
+    let is_on = |&i: &usize| {
+        let (step, part) = (edge(outline, i), p.minus(outline[i]));
+        step.cross(part) == 0 && (0..=step.dot(step)).contains(&step.dot(part))
+    };
+    let on = (0..outline.len()).find(is_on);
     let i = on.expect("where a side bears, a contact begins on an edge");
     let (step, part) = (edge(outline, i), p.minus(outline[i]));
     let (step, part) = match step.0 {
@@ -965,18 +975,38 @@ const F: &str = "010304000a0001000100000001\
                  000000000003000000010003\
                  00040002000600020009000400060004";
 
-/// A is the square (0,0), (2,0), (2,2), (0,2), B is the quadrilateral (0,0),
-/// (4,0), (1,1), (0,4), which is not sound; both stand still; T is 10.
+/// A is the triangle (0,0), (1,0), (2,0), (0,2) with a straight corner and stands
+/// still; B is the triangle (2,-6), (4,-6), (3,-3) and moves by (-1,2); T is 10.
+const E: &str = "010403000a00000000ffff0002\
+                 00000000000100000002000000000002\
+                 0002fffa0004fffa0003fffd";
+
+/// A is the square (0,0), (2,0), (2,2), (0,2), and B is not sound: the
+/// quadrilateral (0,0), (4,0), (1,1), (0,4); both stand still; T is 10.
 const D: &str = "010404000a0000000000000000\
                  00000000000200000002000200000002\
                  00000000000400000001000100000004";
+
+/// Likewise, with B (0,0), (4,0), (4,3), (4,0), (0,3).
+const W: &str = "010405000a0000000000000000\
+                 00000000000200000002000200000002\
+                 0000000000040000000400030004000000000003";
+
+/// Likewise, with B (0,0), (4,2), (6,3), (2,1).
+const L: &str = "010404000a0000000000000000\
+                 00000000000200000002000200000002\
+                 00000000000400020006000300020001";
 
 /// The line of a move by its name.
 fn named(name: &str) -> &'static str {
     match (name, name.strip_prefix('P')) {
         (_, Some(number)) => example(number.parse().expect("a case has a number")),
+        ("F", None) => F,
+        ("E", None) => E,
         ("D", None) => D,
-        _ => F,
+        ("W", None) => W,
+        ("L", None) => L,
+        _ => panic!("no move has the name {name}"),
     }
 }
 
@@ -988,24 +1018,23 @@ fn sides_of(m: &Move) -> Vec<Side> {
 // Outlines that are not sound.
 
 /// Why a move is refused for its outlines: which is not sound, its refusal's
-/// number, the edge named and the lowest corner to its right. The moves worked
-/// here have one.
+/// number, the edge named and why it is.
 struct Wrong<'a> {
     of: char,
     refusal: u8,
     outline: &'a [Point],
     edge: usize,
-    corner: usize,
+    fault: Fault,
 }
 
 fn wrong(m: &Move) -> Option<Wrong<'_>> {
     let of = |of, refusal, outline| {
-        wrong_edge(outline).map(|edge| Wrong {
+        wrong_edge(outline).map(|(edge, fault)| Wrong {
             of,
             refusal,
             outline,
             edge,
-            corner: right_of(outline, edge).expect("a corner to the right"),
+            fault,
         })
     };
     of('A', 8, &m.a[..]).or_else(|| of('B', 9, &m.b[..]))
@@ -1025,15 +1054,17 @@ impl Wrong<'_> {
 
 /// The move in words, its line, and the answer to the question about it.
 fn refused_block(m: &Move, w: &Wrong) -> String {
-    let k = w.corner;
+    let why = match w.fault {
+        Fault::OneLine => "all corners lie on one line".to_string(),
+        Fault::Right(k) => format!("corner {k}, {}, lies to its right", w.outline[k]),
+        Fault::Same(k) => format!("corner {k} equals its start"),
+    };
     format!(
-        "A is {}. B is {}. The line:\n\n    {}\n\n*Which edge is wrong?* {}: \
-         corner {k}, {}, is not strictly to its left.\n",
+        "A is {}. B is {}. The line:\n\n    {}\n\n*Which edge is wrong?* {}: {why}.\n",
         list(&m.a),
         list(&m.b),
         m.line,
-        w.named(),
-        w.outline[k]
+        w.named()
     )
 }
 
@@ -1048,37 +1079,105 @@ fn cross_text(Point(x, y): Point, Point(u, v): Point) -> String {
     format!("{products} = {}", difference(first, second, first - second))
 }
 
-/// The one cross product that shows that the edge named is wrong.
-fn edge_block(w: &Wrong) -> String {
-    let (i, k, outline) = (w.edge, w.corner, w.outline);
-    let (start, stop, corner) = (outline[i], outline[next(outline, i)], outline[k]);
-    let (step, to_corner) = (stop.minus(start), corner.minus(start));
-    let cross = step.cross(to_corner);
-    check(cross < 0, "the cross product is below zero");
-    format!(
-        "The step of edge {i} is {stop} - {start} = {step}; the step from its start to corner {k} \
-         is {corner} - {start} = {to_corner}.\n\n{}\n\n{cross} is not above zero: corner {k} lies to \
-         the right of the edge.\n",
-        cross_text(step, to_corner)
-    )
+const CROSS_HEAD: &str =
+    "Edge | Step (x, y) | Corner | Step from the edge's start (u, v) | x·v - y·u";
+
+/// A row of such a table: edge i and corner k.
+fn cross_row(outline: &[Point], i: usize, k: usize) -> String {
+    let (step, to_corner) = (edge(outline, i), outline[k].minus(outline[i]));
+    let cross = cross_text(step, to_corner);
+    format!("{i} | {step} | {k} | {to_corner} | {cross}")
 }
 
-/// The cross products of the lower edges, all above zero.
+/// The corners that are no ends of edge i.
+fn no_ends(outline: &[Point], i: usize) -> impl Iterator<Item = usize> + '_ {
+    (0..outline.len()).filter(move |&k| k != i && k != next(outline, i))
+}
+
+/// What shows that the edge named is wrong.
+fn edge_block(w: &Wrong) -> String {
+    let (i, outline) = (w.edge, w.outline);
+    let (start, stop) = (outline[i], outline[next(outline, i)]);
+    match w.fault {
+        Fault::OneLine => {
+            check(start != stop, "the ends of edge 0 differ: it has a line");
+            let rows: Vec<String> = no_ends(outline, i)
+                .map(|k| cross_row(outline, i, k))
+                .collect();
+            format!(
+                "{}\nEdge {i} has some length, and all are zero: all corners lie on its line.\n",
+                table(CROSS_HEAD, &rows)
+            )
+        }
+        Fault::Right(k) => {
+            let corner = outline[k];
+            let (step, to_corner) = (stop.minus(start), corner.minus(start));
+            let cross = step.cross(to_corner);
+            check(cross < 0, "the cross product is below zero");
+            format!(
+                "The step of edge {i} is {stop} - {start} = {step}; the step from its start to corner {k} \
+                 is {corner} - {start} = {to_corner}.\n\n{}\n\n{cross} is below zero: corner {k} lies to the right of the edge's line.\n",
+                cross_text(step, to_corner)
+            )
+        }
+        Fault::Same(k) => {
+            check(k != i && outline[k] == start, "another corner is there");
+            format!("The start of edge {i} is corner {i}, {start}. Corner {k} is {start}, too.\n")
+        }
+    }
+}
+
+/// The cross products of the lower edges, none below zero.
 fn lower_block(w: &Wrong) -> String {
     if w.edge == 0 {
         return "No edge is lower than 0.\n".into();
     }
-    let (outline, mut rows) = (w.outline, Vec::new());
+    let (outline, mut rows, mut off) = (w.outline, Vec::new(), None);
     for i in 0..w.edge {
-        for k in (0..outline.len()).filter(|&k| k != i && k != next(outline, i)) {
-            let (step, to_corner) = (edge(outline, i), outline[k].minus(outline[i]));
-            check(step.cross(to_corner) > 0, "a lower edge is not wrong");
-            let cross = cross_text(step, to_corner);
-            rows.push(format!("{i} | {step} | {k} | {to_corner} | {cross}"));
+        check(edge(outline, i) != Point(0, 0), "the edge's ends differ");
+        for k in no_ends(outline, i) {
+            let cross = crosses(outline, outline[k])[i];
+            check(cross >= 0, "a lower edge has no corner to its right");
+            check(outline[k] != outline[i], "its start equals no other");
+            off = off.or((cross != 0).then_some(cross));
+            rows.push(cross_row(outline, i, k));
         }
     }
-    let head = "Edge | Step (x, y) | Corner | Step from the edge's start (u, v) | x·v - y·u";
-    format!("{}\nAll are above zero.\n", table(head, &rows))
+    let off = off.expect("some product is not zero");
+    format!(
+        "{}\nNone is below zero: no corner lies to the right. No step is {}: no corner equals a start. \
+         {off} is not zero: not all corners lie on one line.\n",
+        table(CROSS_HEAD, &rows),
+        Point(0, 0)
+    )
+}
+
+/// That an outline with a straight corner is sound: the cross products of its
+/// edges with its corners.
+fn sound_block(of: char, outline: &[Point]) -> String {
+    check(is_sound(outline), "it is sound");
+    let all = 0..outline.len();
+    let product = |i: usize, k: usize| crosses(outline, outline[k])[i];
+    let row = |i: usize| {
+        let products: Vec<i128> = all.clone().map(|k| product(i, k)).collect();
+        let products = list(&products).replace(", ", " | ");
+        format!("{i} | {} | {products}", edge(outline, i))
+    };
+    let rows: Vec<String> = all.clone().map(row).collect();
+    let head = |k: usize| format!(" | Corner {k}: {}", outline[k]);
+    let head: String = all.clone().map(head).collect();
+    let off = all.clone().find(|&k| product(0, k) != 0);
+    let off = off.expect("a corner off the line of edge 0");
+    let after = |i: usize| next(outline, next(outline, i));
+    let i = all.clone().find(|&i| product(i, after(i)) == 0);
+    let i = i.expect("a straight corner");
+    let j = next(outline, i);
+    format!(
+        "{}\nAll corners differ. The product of edge 0 with corner {off} is not zero: not all lie on one line. \
+         No product is below zero: no corner lies to the right of an edge's line. So {of} is sound. \
+         Corner {j} is straight: edges {i} and {j} lie on one line.\n",
+        table(&format!("{of}'s edge | Step (x, y){head}"), &rows)
+    )
 }
 
 fn refusal_block(w: &Wrong) -> String {
@@ -1898,6 +1997,9 @@ fn block(name: &str, content: String) {
 fn print(name: &str, m: &Move, p1: &Move, sides: &[Side], v: Verdict) {
     let block = |what: &str, content: String| block(&format!("{name} {what}"), content);
     block("move", move_block(m, sides, v));
+    if name == "E" {
+        block("sound", sound_block('A', &m.a));
+    }
     if name == "P3" {
         block("line", limit_block(m, p1));
     } else {
@@ -1930,13 +2032,13 @@ fn main() {
     let wanted = std::env::args().nth(1).unwrap_or_default();
     check_wrong_edges();
     let p1 = read(example(1));
-    let worked = ["P1", "F", "P9", "P3", "P6"].map(|name| {
+    let worked = ["P1", "F", "E", "P9", "P3", "P6"].map(|name| {
         let m = read(named(name));
         let sides = sides_of(&m);
         let v = verdict(&m, &sides);
         (name, m, sides, v)
     });
-    let refused = ["P12", "D"].map(|name| (name, read_any(named(name))));
+    let refused = ["P12", "D", "W", "L"].map(|name| (name, read_any(named(name))));
     let wrong = refused.each_ref().map(|(name, m)| {
         let w = wrong(m);
         (*name, m, w.expect("an outline that is not sound"))

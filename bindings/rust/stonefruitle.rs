@@ -207,9 +207,10 @@ pub enum Refusal {
     Speed,
     /// 7: a coordinate is outside -10,000 to 10,000.
     Place,
-    /// 8: the first outline is not sound. This is its lowest edge that has a corner, other than its two ends, not strictly to
-    /// its left; edge i runs from corner i to the next, the last to corner 0. Of a rectangle, whose low is then not below its
-    /// high in x or in y, it is 0.
+    /// 8: the first outline is not sound: two corners are equal, all lie on one line, or one lies to the right of an edge's
+    /// line. This is 0 if all are on one line, else its lowest edge that has a corner to its right or whose start equals
+    /// another corner; edge i runs from corner i to the next, the last to corner 0. Of a rectangle, whose low is then not
+    /// below its high in x or in y, it is 0.
     First(u8),
     /// 9: the second outline or rectangle, likewise.
     Second(u8),
@@ -288,10 +289,7 @@ impl fmt::Display for Refusal {
         };
         match self.edge() {
             None => f.write_str(why),
-            Some(edge) => write!(
-                f,
-                "{why}: a corner is not strictly to the left of its edge {edge}"
-            ),
+            Some(edge) => write!(f, "{why}: its edge {edge} is wrong"),
         }
     }
 }

@@ -22,8 +22,8 @@ int main(int count, char **arguments)
     if (refusal == STONEFRUITLE_FIRST) {
         /* The last edge runs to the first corner. */
         size_t start = 2 * (size_t)edge, stop = (start + 2) % length;
-        printf("edge %d, from (%lld,%lld) to (%lld,%lld), has a corner that is not strictly to its left\n", edge,
-               (long long)numbers[start], (long long)numbers[start + 1],
+        printf("edge %d, from (%lld,%lld) to (%lld,%lld), is wrong: a corner is to its right or equals its start, or all are on one line\n",
+               edge, (long long)numbers[start], (long long)numbers[start + 1],
                (long long)numbers[stop], (long long)numbers[stop + 1]);
     } else {
         printf("refused: %d\n", refusal);

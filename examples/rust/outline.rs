@@ -17,9 +17,7 @@ fn main() -> ExitCode {
             let (start, stop) = (usize::from(edge), (usize::from(edge) + 1) % corners.len());
             let shown = |i: usize| format!("({},{})", corners[i][0], corners[i][1]);
             let (from, to) = (shown(start), shown(stop));
-            println!(
-                "edge {edge}, from {from} to {to}, has a corner that is not strictly to its left"
-            );
+            println!("edge {edge}, from {from} to {to}, is wrong: a corner is to its right or equals its start, or all are on one line");
         }
         Err(refusal) => println!("refused: {}", refusal.number()),
     }
