@@ -24,10 +24,10 @@
  *
  * What a call costs, as tests/costs measures it:
  *
- * Stack    under 6 KB. Measured by painting a stack before the call: 5.3 KB for
- *          stonefruitle_read_log, 5.1 for stonefruitle_read_move, 4.3 for
- *          stonefruitle_log_step, 4.1 for stonefruitle_read_line, 4.0 for
- *          stonefruitle_answer_line, 3.9 for stonefruitle_write_move, 3.5 for
+ * Stack    under 6 KB. Measured by painting a stack before the call: 5.8 KB for
+ *          stonefruitle_read_log, 5.6 for stonefruitle_read_move, 4.9 for
+ *          stonefruitle_log_step, 4.6 for stonefruitle_read_line and
+ *          stonefruitle_answer_line, 4.4 for stonefruitle_write_move, 3.7 for
  *          stonefruitle_answer_edition, less for the others; 1.3 at most for
  *          rectangles, as lines or as numbers.
  * Time     bounded, whatever is handed in. A longer line or list is refused

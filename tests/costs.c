@@ -9,6 +9,9 @@
  *
  * Time: a move counts with the fastest of its calls, since the slower ones
  * were interrupted; the slowest move is printed.
+ *
+ * With a number of corners and a number of times, it reads nothing and only
+ * makes so many calls of the outline test: for what counts instructions.
  */
 #include <stdio.h>
 #include <stdlib.h>
@@ -252,10 +255,30 @@ static void measure_slivers(int turned)
     }
 }
 
-int main(void)
+/* The outline test of so many of sixteen corners on a circle, so many times over. */
+static int repeat_outline_test(size_t corners, long times)
+{
+    static const int64_t circle[16][2] = {
+        {10000, 0},  {9239, 3827},   {7071, 7071},   {3827, 9239},   {0, 10000},  {-3827, 9239},  {-7071, 7071},  {-9239, 3827},
+        {-10000, 0}, {-9239, -3827}, {-7071, -7071}, {-3827, -9239}, {0, -10000}, {3827, -9239}, {7071, -7071}, {9239, -3827},
+    };
+    int64_t coordinates[32];
+    if (corners < 3 || corners > 16)
+        return 2;
+    for (size_t i = 0; i < corners; i++)
+        memcpy(&coordinates[2 * i], circle[i * 16 / corners], sizeof circle[0]);
+    for (long i = 0; i < times; i++)
+        if (stonefruitle_test_outline(coordinates, 2 * corners, &edge) != 0)
+            return 1;
+    return 0;
+}
+
+int main(int given, char **words)
 {
     char text[1 << 12];
     size_t most = 0;
+    if (given > 1)
+        return given == 3 ? repeat_outline_test(strtoul(words[1], NULL, 10), strtol(words[2], NULL, 10)) : 2;
     while (fgets(text, sizeof text, stdin)) {
         line_length = strcspn(text, "\n");
         if (line_length >= sizeof line)

@@ -55,8 +55,8 @@ same-point D p q h o e = ⊎-elim (step-none p q) (λ l. absurd (no l)) (dot-pos
         let ρ = dot D D ∷ dot u u ∷ dot D p ∷ [] in
         omega (arith, lin≡ ρ (search reps depth 12) tt (rw (o, dot-step D p q, e) at (lagrange-dot D u u)), lin< ρ (search reps depth 12) tt (mul-pos (dot D D) (dot u u) h l))
 
--- k times the cross product x of two steps from one point: the first goes a - o along the line and y to its left, the second b - o along it and stays on it.
--- Where the second goes ahead and is not to the right of the first, the first stays on the line too
+-- Two steps from one point, seen along the line of a direction: both begin at o; the first ends at a, y to the left of the line, the second at b, on the line.
+-- x is their cross product, k the square of the direction. Where the second goes ahead and is not to the right of the first, the first is on the line too
 pub first-level : (k x o a b y : ℤ) → k *ℤ x ≡ (a -ℤ o) *ℤ pos 0 -ℤ y *ℤ (b -ℤ o) → pos 0 <ℤ k → pos 0 ≤ℤ x → pos 0 ≤ℤ y → o <ℤ b → y ≡ pos 0
 first-level k x o a b y e hk hx hy l =
     let ρ = k ∷ x ∷ o ∷ a ∷ b ∷ y ∷ [] in

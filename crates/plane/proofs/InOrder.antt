@@ -27,7 +27,7 @@ cross-round : (p q r : Corner) → cross (step p q) (step p r) ≡ cross (step r
 unfolding cross
 cross-round p q r = by-ring (coords (p ∷ q ∷ r ∷ [])) (search reps depth 12) (search reps depth 12) tt
 
--- ---- k times the cross product x of two steps from one point, the first a - o along a line and y to its left, the second b - o and z
+-- ---- two steps from one point, seen along the line of a direction with the square k: both begin at o, the first ends at a, y to its left, the second at b, z to its left; x is their cross product
 -- the first goes ahead on the line
 first-ahead : (k x o a b z : ℤ) → k *ℤ x ≡ (a -ℤ o) *ℤ z -ℤ pos 0 *ℤ (b -ℤ o) → pos 0 <ℤ k → o <ℤ a → pos 0 ≤ℤ z → pos 0 ≤ℤ x
 first-ahead k x o a b z e hk l hz =
