@@ -17,19 +17,19 @@ use Rattle.whole.proofs.RingLaws.{one-*ℤ}
 use Rattle.whole.proofs.Linear.{ints, lin≤, ≤lin, lin≡}
 use Rattle.whole.proofs.Order.{nonneg-sub, mul-nonneg, cancel-≤}
 use Rattle.whole.proofs.Indices.{every-yes, every-true}
-use Rattle.plane.specs.Point.{origin, plus, step, scaled, cross, dot, side}
+use Rattle.plane.specs.Point.{origin, plus, step, scaled, cross, dot}
 use Rattle.plane.specs.Motion.{moved, movedAll}
 use Rattle.plane.specs.Edges.{corner, edge}
 use Rattle.plane.specs.Inside.{inside}
 use Rattle.plane.specs.CommonPoint.{CommonPoint, total, weighted}
-use Rattle.plane.specs.Mean.{InsideAt, Mean}
+use Rattle.plane.specs.Mean.{Contains, Mean}
 use Rattle.plane.specs.declared.Corner.{Corner}
 use Rattle.plane.proofs.Products.{corner-same, coords, scaled-cross, dot-scaled}
 use Rattle.plane.proofs.Weights.{weighted-low}
-use Rattle.plane.proofs.Hull.{Amid, amid-common, amid-shares, amid-aside}
+use Rattle.plane.proofs.Hull.{Amid, amid-aside}
 use Rattle.plane.proofs.Nearest.{Nearest, nearest-flip, common-or-nearest}
 use Rattle.plane.proofs.Wide.{Wide, Into, edge-into}
-use Rattle.plane.proofs.Separation.{faces, shares-common}
+use Rattle.plane.proofs.Separation.{faces}
 use Rattle.plane.proofs.Moved.{corner-moved, edge-moved, wide-moved}
 
 -- s lies to the right of no edge
@@ -69,7 +69,7 @@ grown t A = movedAll 0 t origin A
 moved-grown : (t : ℕ) (a : Corner) → moved 0 t origin a ≡ scaled (pos t) a
 moved-grown t a = corner-same (+ℤ-idr (pos t *ℤ a .x)) (+ℤ-idr (pos t *ℤ a .y))
 
-pub inside-at : (A : List Corner) (s : Corner) → (inside A s ≡ true) ↔ InsideAt A 1 s
+pub inside-at : (A : List Corner) (s : Corner) → (inside A s ≡ true) ↔ Contains A 1 s
 inside-at A s = (
   λ e i h. subst (λ p. pos 0 ≤ℤ cross (edge A i) (step p s)) (sym (once (corner A i))) (inside-left A s .0 e i h),
   λ f. inside-left A s .1 (λ i h. subst (λ p. pos 0 ≤ℤ cross (edge A i) (step p s)) (once (corner A i)) (f i h)),
@@ -82,7 +82,7 @@ cross-grown : (A : List Corner) (t : ℕ) (s : Corner) (i : ℕ) → i < length 
     cross (edge (grown t A) i) (step (corner (grown t A) i) s) ≡ pos t *ℤ cross (edge A i) (step (scaled (pos t) (corner A i)) s)
 cross-grown A t s i h = ap₂ (λ e p. cross e (step p s)) (edge-moved 0 t origin A i h) (corner-moved 0 t origin A i h ∙ moved-grown t (corner A i)) ∙ scaled-cross (pos t) (edge A i) (step (scaled (pos t) (corner A i)) s)
 
-inside-grown : (A : List Corner) (t : ℕ) (s : Corner) → InsideAt A t s → LeftOf (grown t A) s
+inside-grown : (A : List Corner) (t : ℕ) (s : Corner) → Contains A t s → LeftOf (grown t A) s
 inside-grown A t s f i h =
     let l = rw (length-map A (moved 0 t origin)) at h in
     rw (cross-grown A t s i l) (mul-nonneg (pos t) _ (omega ints) (f i l))
@@ -113,7 +113,7 @@ common-mean A t s c = record {
   agree = sym (weighted-grown t (c .onB) A) ∙ sym (c .agree) ∙ weighted-point s (c .onA) (c .each-of-A) ∙ ap (λ k. scaled (pos k) s) (c .same-total);
 }
 
-pub inside-mean : (A : List Corner) → Wide A → (t : ℕ) (s : Corner) → 0 < t → InsideAt A t s → Mean A t s
+pub inside-mean : (A : List Corner) → Wide A → (t : ℕ) (s : Corner) → 0 < t → Contains A t s → Mean A t s
 inside-mean A w t s h f = common-mean A t s (left-common (grown t A) (wide-moved 0 t origin A h w) s (inside-grown A t s f))
 
 mean-amid : (A : List Corner) (t : ℕ) (s : Corner) → Mean A t s → Amid A (pos t) s
@@ -125,24 +125,5 @@ mean-amid A t s m D n h = divide (pos t) (pos (total (m .ws))) (dot D (weighted 
         let ρ = t ∷ k ∷ x ∷ y ∷ n ∷ [] in
         cancel-≤ (t *ℤ n) y k hk (≤lin ρ (search reps depth 12) tt (omega (arith, lin≡ ρ (search reps depth 12) tt e, lin≤ ρ (search reps depth 12) tt (mul-nonneg t (x -ℤ k *ℤ n) ht (nonneg-sub (k *ℤ n) x l)))))
 
-pub mean-inside : (A : List Corner) → Wide A → (t : ℕ) (s : Corner) → Mean A t s → InsideAt A t s
+pub mean-inside : (A : List Corner) → Wide A → (t : ℕ) (s : Corner) → Mean A t s → Contains A t s
 mean-inside A w t s m = amid-aside A w (pos t) s (mean-amid A t s m)
-
-pub inside-amid : (A : List Corner) → Wide A → (t : ℕ) (s : Corner) → 0 < t → InsideAt A t s → Amid A (pos t) s
-inside-amid A w t s h f = mean-amid A t s (inside-mean A w t s h f)
-
--- ---- points of two outlines
-pub amid-point : (A B : List Corner) → Wide A → Wide B → (t : ℤ) (s : Corner) → pos 0 <ℤ t → Amid A t s → Amid B t s → CommonPoint A B
-amid-point A B wa wb t s h f g =
-    let all = amid-shares A B t s h f g in
-    shares-common A B wa wb (λ i l. all (side (edge A i))) (λ j l. all (side (edge B j)))
-
-pub inside-common : (A B : List Corner) → Wide A → Wide B → (t : ℕ) (s : Corner) → 0 < t → InsideAt A t s → InsideAt B t s → CommonPoint A B
-inside-common A B wa wb t s h f g = amid-point A B wa wb (pos t) s (omega ints) (inside-amid A wa t s h f) (inside-amid B wb t s h g)
-
-pub common-inside : (A B : List Corner) → Wide A → Wide B → (c : CommonPoint A B) → InsideAt A (total (c .onA)) (weighted (c .onA) A) × InsideAt B (total (c .onA)) (weighted (c .onA) A)
-common-inside A B wa wb c =
-    let t = pos (total (c .onA)) in
-    let s = weighted (c .onA) A in
-    let w = amid-common A B c in
-    (amid-aside A wa t s (w .0), amid-aside B wb t s (w .1))

@@ -1,5 +1,5 @@
 -- A point of an outline with fractional coordinates, s/t, in two ways: by the edges, and by the corners alone.
---   InsideAt A t s    s/t lies to the right of no edge of A
+--   Contains A t s    A contains s/t: it lies to the right of no edge
 --   Mean A t s        s/t is a mean of the corners of A, by whole weights
 use mathlib.Core.Path.{_≡_}
 use mathlib.Core.List.{List}
@@ -12,8 +12,8 @@ use Rattle.plane.specs.Edges.{corner, edge}
 use Rattle.plane.specs.CommonPoint.{total, weighted}
 use Rattle.plane.specs.declared.Corner.{Corner}
 
-abbrev pub InsideAt : List Corner → ℕ → Corner → Type 0
-InsideAt A t s = (i : ℕ) → i < length A → pos 0 ≤ℤ cross (edge A i) (step (scaled (pos t) (corner A i)) s)
+abbrev pub Contains : List Corner → ℕ → Corner → Type 0
+Contains A t s = (i : ℕ) → i < length A → pos 0 ≤ℤ cross (edge A i) (step (scaled (pos t) (corner A i)) s)
 
 pub record Mean (A : List Corner) (t : ℕ) (s : Corner) : Type 0 where
   pub ws : List ℕ
