@@ -93,9 +93,9 @@ def words():
 
 def renaming(defined, used):
     new = {word: respelled(word) for word in defined if respelled(word) != word}
-    # an edit may still have a word that port.py has respelled where it is defined
+    # an edit, and a comment of specs/, may still have a word that port.py has respelled where it is defined
     for word, paths in used.items():
-        if any(path.endswith(".edit") for path in paths) and respelled(word) != word and respelled(word) in defined:
+        if any(path.endswith(".edit") or "/specs/" in path for path in paths) and respelled(word) != word and respelled(word) in defined:
             new[word] = respelled(word)
     new.update((law, name) for law, name in TAKEN.items() if law in new.values())
     return new
