@@ -17,9 +17,9 @@
  * stonefruitle_read_rectangles, stonefruitle_read_log and
  * stonefruitle_test_outline do not look whether outlines meet at all.
  *
- * Link with libstonefruitle_c.a (`rt staticlib stonefruitle_c` writes it to
- * target/staticlib). Each function is proved to meet its contract, which says
- * of every input what is returned and what stands in each lent buffer
+ * Link with libstonefruitle_c.a (`rt lib` in crates/stonefruitle_c writes it to
+ * crates/stonefruitle_c/out). Each function is proved to meet its contract, which
+ * says of every input what is returned and what stands in each lent buffer
  * afterwards (crates/stonefruitle_c/src/lib.rt).
  *
  * What a call costs, as tests/costs measures it:

@@ -7,8 +7,8 @@
 //! Standard library only. From the top of the repository:
 //!
 //! ```text
-//! rt staticlib stonefruitle_c
-//! rustc -O --edition 2021 --crate-type rlib -L target/staticlib bindings/rust/stonefruitle.rs --out-dir target
+//! (cd crates/stonefruitle_c && rt lib)
+//! rustc -O --edition 2021 --crate-type rlib -L crates/stonefruitle_c/out bindings/rust/stonefruitle.rs --out-dir target
 //! rustc -O --edition 2021 --extern stonefruitle=target/libstonefruitle.rlib PROGRAM.rs
 //! ```
 //!
