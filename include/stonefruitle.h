@@ -25,11 +25,11 @@
  * What a call costs, as tests/costs measures it:
  *
  * Stack    under 6 KB. Measured by painting a stack before the call: 5.8 KB for
- *          stonefruitle_read_log, 5.6 for stonefruitle_read_move, 4.9 for
- *          stonefruitle_log_step, 4.6 for stonefruitle_read_line and
- *          stonefruitle_answer_line, 4.4 for stonefruitle_write_move, 3.7 for
- *          stonefruitle_answer_edition, less for the others; 1.3 at most for
- *          rectangles, as lines or as numbers.
+ *          stonefruitle_read_log and stonefruitle_log_step, 5.2 for
+ *          stonefruitle_read_move, 4.1 for stonefruitle_answer_line, 3.9 for
+ *          stonefruitle_read_line, 3.6 for stonefruitle_answer_lists, 3.5 for
+ *          stonefruitle_write_move and stonefruitle_answer_edition, less for the
+ *          others; 1.9 at most for rectangles, as lines or as numbers.
  * Time     bounded, whatever is handed in. A longer line or list is refused
  *          unread. Each outline's 16 corners at most are tried against its 16
  *          edges, and once more against edge 0. At most 32 sides are worked,
@@ -40,7 +40,8 @@
  *          lowest terms by at most 43 divisions each. Of rectangles two spans are
  *          worked, and 8 corners at most are tried by comparisons. The slowest of
  *          5802 moves of twice 16 corners took 16 microseconds on one core of an
- *          Intel Xeon server: a figure of one machine, not a promise.
+ *          Intel Xeon server, built by the older rattle-kit-5b: a figure of one
+ *          machine, not a promise.
  * Memory   nothing is allocated and nothing is kept between calls: there are no
  *          globals and no locks, so calls are safe from several threads, each
  *          with its own buffers.
