@@ -36,6 +36,9 @@ LAWS = """
     value_after value_before value_same within_step word_fits write_known written_read zero_bits zero_ended zero_held
 """
 
+# The ends of two intervals, as specs/Ends of whole calls them.
+ENDS = ("lowA", "highA", "lowB", "highB")
+
 # A law of these crates, and a definition of movelog.
 IN_ORDER = ("crates/plane/", "crates/outline/")
 
@@ -102,11 +105,12 @@ def renaming(defined, used):
 
 
 def evening():
-    """The fields and cases of specs/, and the laws, that are not spelled as their like."""
+    """The fields and cases of specs/, the laws and the ends that are not spelled as their like."""
     members = {member for path in files() if "/specs/" in path for member in MEMBER.findall(read(path))}
     new = {member: member.replace("-", "_") for member in members if "-" in member}
     new.update((law, law.replace("_", "-")) for law in LAWS.split())
     new["le_z_yes"] = "le_z-yes"
+    new.update((end, respelled(end)) for end in ENDS)
     return new
 
 
