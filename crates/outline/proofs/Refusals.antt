@@ -1,5 +1,5 @@
 -- Refusals by their numbers, and answers by whether they are one.
-use Rattle.std.proofs.Common.{◌≡◌, refl, ℕ, zero, suc, ◌≤◌, Bool, true, false, cond, eqb, arith, Option, None, Some, Result, Ok, Err, ◌≢◌}
+use Rattle.std.proofs.Common.{◌≡◌, refl, ℕ, zero, suc, ◌≤◌, Bool, true, false, cond, eqb, arith, None, Some, Ok, Err, ◌≢◌}
 use borrow.Author.Tests.{eq-eqb, ne_eqb}
 use Rattle.outline.specs.Refusal.{number_in, plain, unless, refusal_of}
 use Rattle.outline.specs.declared.Refusal.{Refusal}
