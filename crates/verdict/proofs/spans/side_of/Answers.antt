@@ -16,7 +16,7 @@ pub project-requires : goal.project-requires
 project-requires c =
     let fit = c.requires.fit in
     let some = fit.some_b in
-    (fit.held_b, omega arith, subst (λ r. Near 20000 r.d) (sym c.own_side-own.ensures) (held-side c.args.m.a fit.held_a c.args.k c.if-k-m.true))
+    record { held = fit.held_b; some = omega arith; direction = subst (λ r. Near 20000 r.d) (sym c.own_side-own.ensures) (held-side c.args.m.a fit.held_a c.args.k c.if-k-m.true) }
 
 pub returns-then-k-m : goal.returns-then-k-m
 returns-then-k-m c =
@@ -35,7 +35,7 @@ project-requires-else-k-m c =
     let fit = c.requires.fit in
     let some = fit.some_a in
     let below : c.args.k - m.a.count < m.b.count = omega (arith, side_count-is m fit, c.if-k-m.false, c.requires.side) in
-    (fit.held_a, omega arith, subst (λ r. Near 20000 r.d) (sym c.own_side-own-else-k-m.ensures) (held-side m.b fit.held_b (c.args.k - m.a.count) below))
+    record { held = fit.held_a; some = omega arith; direction = subst (λ r. Near 20000 r.d) (sym c.own_side-own-else-k-m.ensures) (held-side m.b fit.held_b (c.args.k - m.a.count) below) }
 
 pub returns-else-k-m : goal.returns-else-k-m
 returns-else-k-m c =
