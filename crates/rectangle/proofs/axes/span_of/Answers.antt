@@ -1,7 +1,6 @@
 -- A rectangle of an accepted move reaches numbers in range.
-use Rattle.std.proofs.Common.{sym, ◌∙◌, subst, nat_abs}
-use Rattle.whole.proofs.Casts.{limit-read}
-use Rattle.rectangle.specs.Worked.{Reaching, along}
+use Rattle.std.proofs.Common.{sym, subst}
+use Rattle.rectangle.specs.Worked.{Reaching}
 use Rattle.rectangle.proofs.Reaches.{reaching}
 use Rattle.rectangle.proofs.axes.span_of.Goals as goal
 
@@ -10,6 +9,3 @@ along-requires-clause-a c = subst Reaching (sym c.reach-a.ensures) (reaching c.a
 
 pub along-requires-clause-b : goal.along-requires-clause-b
 along-requires-clause-b c = subst Reaching (sym c.reach-b.ensures) (reaching c.args.axis _ _ c.requires.upright_b c.requires.near_vb)
-
-pub returns : goal.returns
-returns c = c.along.ensures ∙ (λ i. along (c.reach-a.ensures i) (c.reach-b.ensures i) (nat_abs (limit-read c.args.m.limit c.requires.limited i)))
