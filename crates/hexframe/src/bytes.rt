@@ -38,10 +38,9 @@ impl<const N: usize> Bytes<N> {
 
     /// How many there are.
     pub fn len(&self) -> usize
-        ensures value { result ≡ length self.now }
-        ensures most { result ≤ N }
+        ensures { result ≡ length self.now }
     {
-        self.count
+        self.as_slice().len()
     }
 
     /// The bytes as a part of what is held.
