@@ -16,11 +16,11 @@ pub project-requires : goal.project-requires
 project-requires c =
     let fit = c.requires.fit in
     let some = fit.some_b in
-    record { held = fit.held_b; some = omega arith; direction = subst (λ r. Near 20000 r.d) (sym c.own_side-own.ensures) (held-side c.args.m.a fit.held_a c.args.k c.if-k-m.true) }
+    record { held = fit.held_b; some = omega arith; direction = subst (λ r. Near 20000 r.d) (sym c.own_side-own.ensures) (held-side c.args.m.now.a fit.held_a c.args.k c.if-k-m.true) }
 
 pub returns-then-k-m : goal.returns-then-k-m
 returns-then-k-m c =
-    let m = c.args.m in
+    let m = c.args.m.now in
     let own = c.own_side-own in
     let A = corners_held m.a in
     let B = corners_held m.b in
@@ -31,7 +31,7 @@ returns-then-k-m c =
 
 pub project-requires-else-k-m : goal.project-requires-else-k-m
 project-requires-else-k-m c =
-    let m = c.args.m in
+    let m = c.args.m.now in
     let fit = c.requires.fit in
     let some = fit.some_a in
     let below : c.args.k - m.a.count < m.b.count = omega (arith, side_count-is m fit, c.if-k-m.false, c.requires.side) in
@@ -39,7 +39,7 @@ project-requires-else-k-m c =
 
 pub returns-else-k-m : goal.returns-else-k-m
 returns-else-k-m c =
-    let m = c.args.m in
+    let m = c.args.m.now in
     let own = c.own_side-own-else-k-m in
     let A = corners_held m.a in
     let B = corners_held m.b in
