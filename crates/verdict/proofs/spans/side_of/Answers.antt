@@ -15,7 +15,8 @@ pub project-requires : goal.project-requires
 project-requires c =
     let fit = c.m.invariant in
     let some = fit.some_b in
-    record { near = fit.near_b; some = omega arith; direction = subst (λ r. Near 20000 r.d) (sym c.own_side-own.ensures) (held-side c.m.inside.a fit.near_a c.args.k) }
+    let b = ap (λ h. h.b) c.m-inside.view_is in
+    rw b (record { near = fit.near_b; some = omega arith; direction = subst (λ r. Near 20000 r.d) (sym c.own_side-own.ensures) (held-side c.m.inside.a fit.near_a c.args.k) })
 
 pub returns-then-k-m : goal.returns-then-k-m
 returns-then-k-m c =
@@ -25,7 +26,9 @@ returns-then-k-m c =
     let own = c.own_side-own in
     let count = held-length c.m-inside.invariant (ap (λ h. h.a) c.m-inside.view_is) in
     let the-side = side-of-a M c.args.k (omega (arith, count, c.if-k-m.true)) in
-    ap (λ b. record { d = own.result.d; a = own.result.on; b = b }) c.project.ensures
+    let b = ap (λ h. h.b) c.m-inside.view_is in
+    let project = rw b at c.project.ensures in
+    ap (λ b. record { d = own.result.d; a = own.result.on; b = b }) project
     ∙ ap (λ r. record { d = r.d; a = r.on; b = interval r.d B }) own.ensures
     ∙ ap (λ x. record { d = x; a = interval x A; b = interval x B }) (sym the-side)
     ∙ ap (λ m. projections m c.args.k) c.m.view_is
