@@ -7,4 +7,4 @@ use Rattle.stonefruitle_c.specs.Numbers.{coordinates}
 use Rattle.stonefruitle_c.proofs.numbers.coordinates.Given as goal
 
 abbrev pub invariant-loop-k : goal.invariant-loop-k
-invariant-loop-k l = l.all ≡ filled (coordinates l.o-inside.corners) (pos 0) 32 (2 * l.k)
+invariant-loop-k l = l.all ≡ filled (coordinates l.o.corners) (pos 0) 32 (2 * l.k)
