@@ -1,15 +1,15 @@
 -- Refusals by their numbers, and answers by whether they are one.
-use Rattle.std.proofs.Common.{◌≡◌, refl, ℕ, zero, suc, ◌≤◌, Bool, true, false, cond, eqb, arith, None, Some, Ok, Err, ◌≢◌}
+use Rattle.std.proofs.Common.{◌≡◌, refl, ℕ, Bool, true, false, cond, eqb, arith, None, Some, Ok, Err, ◌≢◌}
 use borrow.Author.Tests.{eq-eqb, ne_eqb}
-use Rattle.outline.specs.Refusal.{number_in, plain, unless, refusal_of}
+use Rattle.outline.specs.Refusal.{number_in, edge_in, plain, unless, refusal_of}
 use Rattle.outline.specs.declared.Refusal.{Refusal}
 
-pub number-plain : (r : ℕ) → 1 ≤ r → r ≤ 11 → r ≢ 8 → r ≢ 9 → number_in (plain r) ≡ r
-number-plain zero low high a b = absurd (omega arith)
-number-plain (suc r) low high a b = go r (omega arith) a b
-  where
-    go : (k : ℕ) → k ≤ 10 → suc k ≢ 8 → suc k ≢ 9 → number_in (plain (suc k)) ≡ suc k
-    go k high a b = grind arith
+-- a refusal that is given by its number alone has that number, and carries no edge
+pub number-plain : (r : ℕ) → number_in (plain r) ≡ r
+number-plain r = grind arith
+
+pub edge-plain : (r : ℕ) → edge_in (plain r) ≡ None
+edge-plain r = grind arith
 
 module _ {A : Type 0} (r : ℕ) (why : Refusal) (x : A) where
   pub unless-none : r ≡ 0 → unless r why x ≡ Ok x

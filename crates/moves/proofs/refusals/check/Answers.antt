@@ -78,11 +78,12 @@ bad_edge-requires-2 c =
     let h = c.requires in
     held-b c.args.m h.padded h.counted_a h.counted_b (sym c.if-not-is_placed-2.ensures)
 
+-- the count of A, which the edit edge_of_a_with_nine puts in the place of the edge, would fit too: that it is no edge of B is told below
 pub overflow_cast-result-in-Some-bad_edge : goal.overflow_cast-result-in-Some-bad_edge
 overflow_cast-result-in-Some-bad_edge c =
     let h = c.requires in
     let held = held-b c.args.m h.padded h.counted_a h.counted_b (sym c.if-not-is_placed-2.ensures) in
-    omega (arith, held-name-small c.args.m.b held.kept c.in-Some-bad_edge.edge (sym c.in-Some-bad_edge.ensures))
+    omega (arith, counted-yes _ h.counted_a, held-name-small c.args.m.b held.kept c.in-Some-bad_edge.edge (sym c.in-Some-bad_edge.ensures))
 
 pub returns-in-Some-bad_edge : goal.returns-in-Some-bad_edge
 returns-in-Some-bad_edge c =
