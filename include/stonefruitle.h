@@ -24,12 +24,12 @@
  *
  * What a call costs, as tests/costs measures it:
  *
- * Stack    under 6 KB. Measured by painting a stack before the call: 5.8 KB for
- *          stonefruitle_read_log and stonefruitle_log_step, 5.2 for
- *          stonefruitle_read_move, 4.1 for stonefruitle_answer_line, 3.9 for
- *          stonefruitle_read_line, 3.6 for stonefruitle_answer_lists, 3.5 for
- *          stonefruitle_write_move and stonefruitle_answer_edition, less for the
- *          others; 1.9 at most for rectangles, as lines or as numbers.
+ * Stack    under 6 KB. Measured by painting a stack before the call: 5.4 KB for
+ *          stonefruitle_log_step, 4.9 for stonefruitle_read_log, 4.3 for
+ *          stonefruitle_answer_line, 4.2 for stonefruitle_read_move, 4.0 for
+ *          stonefruitle_read_line, 3.7 for stonefruitle_answer_lists and
+ *          stonefruitle_write_move, 3.6 for stonefruitle_answer_edition, less
+ *          for the others; 1.2 at most for rectangles, as lines or as numbers.
  * Time     bounded, whatever is handed in. A longer line or list is refused
  *          unread. Each outline's 16 corners at most are tried against its 16
  *          edges, and once more against edge 0. At most 32 sides are worked,
